@@ -1,12 +1,16 @@
 //! The values that calls, messages and replies are made of: ids, texts and lists.
 #![tactic(auto)]
 
+mod body;
 mod ids;
 mod list;
 mod memory;
+mod numbers;
 mod text;
 
+pub use body::{Body, BodyView, Tree};
 pub use ids::{ConsumerId, ContextId, EntryNo, MessageId, PassNo};
 pub use list::List;
 pub use memory::NoMemory;
+pub use numbers::Numbers;
 pub use text::{Text, TextFault};

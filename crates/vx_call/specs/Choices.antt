@@ -1,0 +1,38 @@
+-- Which handler a message goes to. (Vert.x core manual, "Point-to-point and Request-Response messaging": a message
+-- that is sent goes to one of the handlers at the address, chosen by a round robin that is not strict.)
+-- Strict turns are this project's own.
+use Rattle.std.specs.Prelude.{ℕ, ◌%◌, Bool, true, false, not, ◌&&◌, if◌then◌else◌, List, [], ◌∷◌, ◌++◌, length, slice_get, Option}
+use Rattle.std.specs.List.{count_by}
+use Rattle.std.specs.Str.{bytes_eq}
+use Rattle.vx_call.specs.declared.call.Call.{Call}
+use Rattle.vx_call.specs.declared.call.Call.TheVariants as calls
+use Rattle.vx_call.specs.declared.history.Consumer.{Consumer}
+use Rattle.vx_call.specs.declared.history.Traced.{Traced}
+use Rattle.vx_call.specs.History.{Kind, lasting}
+use Rattle.vx_call.specs.Consumers.{handlers}
+
+abbrev pub is_empty : {A : Type 0} → List A → Bool
+is_empty [] = true
+is_empty (x ∷ xs) = false
+
+-- a Send chooses at its address where there are handlers
+abbrev pub choice_made : List Traced → Call → List (List ℕ)
+choice_made before (calls.Send address body) = if is_empty (handlers before address) then [] else address ∷ []
+choice_made before _ = []
+
+-- the address lost its last handler
+abbrev pub is_emptied : List Traced → Traced → List ℕ → Bool
+is_emptied before new address = not (is_empty (handlers before address)) && is_empty (handlers (before ++ new ∷ []) address)
+
+abbrev pub choice_kind : Kind (List ℕ)
+choice_kind = record { made = λ before new. choice_made before new.entry.call; ended = is_emptied }
+
+-- how many choices there were at the address since it last had no handler
+abbrev pub choices : List Traced → List ℕ → ℕ
+choices history address = count_by (bytes_eq address) (lasting choice_kind history)
+
+-- the handlers at an address take turns: the one whose number is the count of choices, modulo how many there are
+abbrev pub choice : List Traced → List ℕ → Option Consumer
+choice history address =
+    let live = handlers history address in
+    slice_get live (choices history address % length live)

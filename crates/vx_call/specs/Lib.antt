@@ -1,0 +1,11 @@
+pub mod History
+pub mod Names
+pub mod Contexts
+pub mod Consumers
+pub mod Choices
+pub mod Items
+pub mod Held
+pub mod Next
+pub mod Refusals
+pub mod Rows
+pub mod Machine

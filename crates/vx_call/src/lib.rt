@@ -1,0 +1,11 @@
+//! The calls of the hub, their replies and the history that they make; `specs` has the machine that answers them.
+#![tactic(auto)]
+
+mod call;
+mod history;
+mod reply;
+
+pub use call::{Call, End};
+pub use history::{Consumer, Entry, Traced};
+pub use reply::{Refusal, Reply, Task, To};
+pub use vx_message::Lane;
