@@ -1,1 +1,6 @@
 pub mod Bodies
+pub mod NodeFalls
+pub mod Nodes
+pub mod Stored
+pub mod Tree
+pub mod Views

@@ -8,7 +8,7 @@ mod memory;
 mod numbers;
 mod text;
 
-pub use body::{Body, BodyView, Tree};
+pub use body::{ArrayRefused, Body, BodyView};
 pub use ids::{ConsumerId, ContextId, EntryNo, MessageId, PassNo};
 pub use list::List;
 pub use memory::NoMemory;
