@@ -9,3 +9,4 @@ pub mod Next
 pub mod Refusals
 pub mod Rows
 pub mod Machine
+pub mod Runs
