@@ -1,0 +1,5 @@
+pub mod Lasting
+pub mod Each
+pub mod Apart
+pub mod Waiting
+pub mod Owners
