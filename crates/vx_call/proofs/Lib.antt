@@ -3,3 +3,4 @@ pub mod Each
 pub mod Apart
 pub mod Waiting
 pub mod Owners
+pub mod Legal

@@ -1,0 +1,6 @@
+pub mod Positions
+pub mod Rounds
+pub mod Frames
+pub mod RowNewContext
+pub mod RowFinish
+pub mod RowRegister
