@@ -4,3 +4,4 @@ pub mod Frames
 pub mod RowNewContext
 pub mod RowFinish
 pub mod RowRegister
+pub mod RowSend

@@ -7,7 +7,7 @@ use Rattle.vx_hub.proofs.rows.finish.finish.Goals as goal
 
 pub returns-in-Some : goal.returns-in-Some
 returns-in-Some c = λ history stands. record {
-  answered = sym (ap (λ refusal. unless_refused refusal replies.Done) (sym (c.in-Some.ensures history stands)));
+  answered = ap (λ refusal. unless_refused refusal replies.Done) (c.in-Some.ensures history stands);
   stands = refused_contexts c.args.contexts.now history c.args.pass _ c.in-Some.refusal stands;
 }
 

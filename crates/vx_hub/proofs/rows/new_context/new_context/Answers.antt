@@ -8,7 +8,7 @@ use Rattle.vx_hub.proofs.rows.new_context.new_context.Goals as goal
 
 pub returns-in-Some-clause-ok : goal.returns-in-Some-clause-ok
 returns-in-Some-clause-ok c = λ history stands is_next. record {
-  answered = sym (ap (λ refusal. unless_refused refusal (replies.Context (next_context history))) (sym (c.in-Some.ensures history stands)));
+  answered = ap (λ refusal. unless_refused refusal (replies.Context (next_context history))) (c.in-Some.ensures history stands);
   stands = refused_contexts c.args.contexts.now history c.args.pass _ c.in-Some.refusal stands;
 }
 

@@ -8,7 +8,7 @@ use Rattle.vx_hub.proofs.rows.register.register.Goals as goal
 
 pub returns-in-Some-clause-ok : goal.returns-in-Some-clause-ok
 returns-in-Some-clause-ok c = λ history pass contexts_stand stands is_next. record {
-  answered = sym (ap (λ refusal. unless_refused refusal (replies.Consumer (next_consumer history))) (sym (c.in-Some.ensures history contexts_stand)));
+  answered = ap (λ refusal. unless_refused refusal (replies.Consumer (next_consumer history))) (c.in-Some.ensures history contexts_stand);
   stands = refused_bus c.args.bus.now history pass _ c.in-Some.refusal stands;
 }
 
