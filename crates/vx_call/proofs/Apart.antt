@@ -77,3 +77,10 @@ remove_apart test reflexive symmetric (x ∷ xs) (suc i) d apart inside =
     ap (λ ys. x ∷ ys) (remove_apart test reflexive symmetric xs i d apart.1 (omega arith))
     ∙ sym (ap (λ b. cond (not b) (x ∷ filter (λ y. not (test (get_or xs i d) y)) xs) (filter (λ y. not (test (get_or xs i d) y)) xs))
     (symmetric (get_or xs i d) x ∙ Each-at (λ y. test x y ≡ false) xs i d (omega arith) apart.0))
+
+-- a test that is true of a thing tells it from those before it
+pub before_apart : {A : Type 0} (test : A → A → Bool) → ((x y : A) → test x y ≡ test y x) → (xs : List A) (i k : ℕ) (d : A) → Apart test xs → i < length xs → k < i → test (get_or xs i d) (get_or xs k d) ≡ false
+before_apart test symmetric [] i k d apart inside lt = absurd (omega arith)
+before_apart test symmetric (x ∷ xs) zero k d apart inside lt = absurd (omega arith)
+before_apart test symmetric (x ∷ xs) (suc i) zero d apart inside lt = symmetric (get_or xs i d) x ∙ Each-at (λ y. test x y ≡ false) xs i d (omega arith) apart.0
+before_apart test symmetric (x ∷ xs) (suc i) (suc k) d apart inside lt = before_apart test symmetric xs i k d apart.1 (omega arith) (omega arith)

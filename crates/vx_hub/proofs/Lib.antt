@@ -5,3 +5,5 @@ pub mod RowNewContext
 pub mod RowFinish
 pub mod RowRegister
 pub mod RowSend
+pub mod Views
+pub mod RowTake

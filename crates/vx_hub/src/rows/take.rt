@@ -1,4 +1,5 @@
-ghost use Rattle.std.specs.Prelude.{◌≡◌, ◌<◌, List, length, position, Some};
+ghost use Rattle.std.specs.Prelude.{◌≡◌, ◌<◌, List, length, position, Some, None};
+ghost use Rattle.vx_message.specs.declared.Lane.{Lane};
 ghost use Rattle.vx_call.specs.declared.call.Call.TheVariants as calls;
 ghost use Rattle.vx_call.specs.declared.history.Traced.{Traced};
 ghost use Rattle.vx_call.specs.Rows as rows;
@@ -32,10 +33,17 @@ pub fn take(contexts: &mut Contexts, bus: &mut Bus, at: EntryNo, pass: PassNo, l
     }
 }
 
-// Hands a task that waits out to a pass.
-fn hand_out(contexts: &mut Contexts, bus: &mut Bus, at: EntryNo, pass: PassNo, index: usize) -> Task
+// Hands out the task that waits at a place: the next one of each lane that finds it there.
+fn hand_out(
+    contexts: &mut Contexts,
+    bus: &mut Bus,
+    at: EntryNo,
+    pass: PassNo,
+    index: usize,
+) -> Task
     requires inside { index < length contexts.old.waiting }
     requires one { AreOfOneHistory contexts.old bus.old }
+    ensures { (history : List Traced) (lane : Lane) → StoresStand contexts.old bus.old history → IsNext at history → rows.take_refusal history pass lane ≡ None → position (is_ready contexts.old.held lane) contexts.old.waiting ≡ Some index → Follows contexts.new bus.new history pass (calls.Take lane) (Reply.Task result) }
 {
     let item = contexts.take(index, pass, at);
     match item.kind {
