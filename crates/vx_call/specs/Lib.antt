@@ -9,3 +9,5 @@ pub mod Next
 pub mod Refusals
 pub mod Rows
 pub mod Machine
+pub mod Plain
+pub mod Runs

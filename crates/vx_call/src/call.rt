@@ -1,3 +1,6 @@
+ghost use Rattle.std.specs.Prelude.{◌≡◌};
+ghost use Rattle.vx_call.specs.Plain.{is_plain};
+
 use vx_data::{Body, ContextId, Text};
 use vx_message::Lane;
 
@@ -20,4 +23,13 @@ pub enum Call {
     Take(Lane),
     /// Ends the task that the pass holds.
     Finish(End),
+}
+
+impl Call {
+    /// Whether the call is neither a Take nor a Finish, which hand something out of the hub or back to it.
+    pub fn plain(&self) -> bool
+        ensures { result ≡ is_plain self.now }
+    {
+        !matches!(self, Call::Take(_) | Call::Finish(_))
+    }
 }

@@ -1,0 +1,9 @@
+pub mod Positions
+pub mod Rounds
+pub mod Frames
+pub mod RowNewContext
+pub mod RowFinish
+pub mod RowRegister
+pub mod RowSend
+pub mod Views
+pub mod RowTake

@@ -1,0 +1,129 @@
+ghost use Rattle.std.specs.Prelude.{◌≡◌, ◌<◌, List, [], IsTrue, IfOk, IfErr, OnErr};
+ghost use Rattle.vx_call.specs.declared.history.Traced.{Traced};
+ghost use Rattle.vx_call.specs.Plain.{is_plain};
+ghost use Rattle.vx_hub.specs.Stands.{StandsFor, StoresStand, Meets, Keeps, Follows, IsNext, finished};
+
+use crate::bus::Bus;
+use crate::contexts::Contexts;
+use crate::rows::finish::finish;
+use crate::rows::new_context::new_context;
+use crate::rows::register::register;
+use crate::rows::send::send;
+use crate::rows::take::take;
+use crate::unmade::Unmade;
+use std::alloc::Global;
+use std::marker::Model;
+use vx_call::{Call, End, Lane, Refusal, Reply};
+use vx_data::{EntryNo, PassNo};
+
+/// How many entries a history has at most.
+const LIMIT: u64 = 1 << 48;
+
+/// The machine of one thread. It stands for a history, of which it keeps what the next replies need.
+#[derive(Drop)]
+pub struct Hub {
+    next: u64,
+    contexts: Contexts,
+    bus: Bus,
+}
+
+impl Model for Hub {
+    ghost use Rattle.vx_hub.specs.Stores.{HubStore};
+    ghost use Rattle.vx_hub.specs.Stands.{AreOfOneHistory};
+
+    ghost Value = { HubStore };
+
+    ghost view = { λ a. record { next = a.next; contexts = a.contexts; bus = a.bus } };
+
+    ghost invariant = { λ a. AreOfOneHistory a.contexts a.bus };
+}
+
+// Makes a plain call, as the entry of this number.
+fn plain_row(
+    contexts: &mut Contexts,
+    bus: &mut Bus,
+    at: EntryNo,
+    pass: PassNo,
+    call: Call,
+) -> Result<Reply, Unmade>
+    requires small { at.0 < LIMIT }
+    requires plain { IsTrue (is_plain call) }
+    ensures ok { IfOk result (λ reply. (history : List Traced) → StoresStand contexts.old bus.old history → IsNext at history → Follows contexts.new bus.new history pass call reply) }
+    ensures err { OnErr result ((history : List Traced) → StoresStand contexts.old bus.old history → StoresStand contexts.new bus.new history) }
+    ensures back { IfErr result (λ unmade. unmade.call ≡ call) }
+{
+    match call {
+        Call::NewContext => new_context(contexts, at, pass),
+        Call::Register { context, address } => register(contexts, bus, at, context, address),
+        Call::Send { address, body } => send(contexts, bus, at, address, body),
+        Call::Take(_) | Call::Finish(_) => unreachable!(),
+    }
+}
+
+impl Hub {
+    /// A hub that stands for the empty history, in which pass 0 is there.
+    pub fn new(alloc: Global) -> Hub
+        ensures empty { StandsFor result [] }
+    {
+        Hub {
+            next: 0,
+            contexts: Contexts::new(alloc),
+            bus: Bus::new(alloc),
+        }
+    }
+
+    /// Makes a plain call for a pass that is there, and gives the machine's reply.
+    /// Each call is one more entry of the history, also where it is refused; a refused call changes nothing else.
+    /// Where the history has 2^48 entries the reply is the refusal `Spent`, and no entry is added.
+    /// Where memory runs out the call comes back, and the hub stands for the same history.
+    pub fn step(&mut self, pass: PassNo, call: Call) -> Result<Reply, Unmade>
+        requires { IsTrue (is_plain call) }
+        ensures answered_as_the_machine { IfOk result (λ reply. Meets self.old self.new pass call reply) }
+        ensures without_memory_as_before { OnErr result (Keeps self.old self.new) }
+        ensures call_comes_back { IfErr result (λ unmade. unmade.call ≡ call) }
+    {
+        if self.next >= LIMIT {
+            return Ok(Reply::Refused(Refusal::Spent));
+        }
+        let reply = plain_row(
+            &mut self.contexts,
+            &mut self.bus,
+            EntryNo(self.next),
+            pass,
+            call,
+        )?;
+        self.next += 1;
+        Ok(reply)
+    }
+
+    /// Takes the next task of a lane for a pass that is there, and gives the machine's reply: the task, `Idle` or a refusal.
+    /// It takes no memory.
+    pub fn take(&mut self, pass: PassNo, lane: Lane) -> Reply
+        ensures answered_as_the_machine { Meets self.old self.new pass (Call.Take lane) result }
+    {
+        if self.next >= LIMIT {
+            return Reply::Refused(Refusal::Spent);
+        }
+        let reply = take(
+            &mut self.contexts,
+            &mut self.bus,
+            EntryNo(self.next),
+            pass,
+            lane,
+        );
+        self.next += 1;
+        reply
+    }
+
+    /// Ends the task that a pass holds: `Ok` where the machine answers Done, else its refusal. It takes no memory.
+    pub fn finish(&mut self, pass: PassNo, end: End) -> Result<(), Refusal>
+        ensures answered_as_the_machine { Meets self.old self.new pass (Call.Finish end) (finished result) }
+    {
+        if self.next >= LIMIT {
+            return Err(Refusal::Spent);
+        }
+        let ended = finish(&mut self.contexts, pass, end);
+        self.next += 1;
+        ended
+    }
+}
