@@ -5,7 +5,7 @@ use Rattle.std.specs.Option.{option_map, option_to_list}
 use Rattle.std.proofs.lemmas.Bool.{eq-eqb, eqb-true}
 use Rattle.std.proofs.lemmas.List.{length_push}
 use Rattle.vx_data.specs.declared.ids.ContextId.{ContextId}
-use Rattle.vx_data.specs.declared.body.Tree.{Tree}
+use Rattle.vx_data.specs.Tree.{Tree}
 use Rattle.vx_call.specs.declared.call.Call.{Call}
 use Rattle.vx_call.specs.declared.call.Call.TheVariants as calls
 use Rattle.vx_call.specs.declared.reply.Task.{Task}

@@ -12,7 +12,7 @@ use Rattle.vx_data.specs.declared.ids.EntryNo.{EntryNo}
 use Rattle.vx_data.specs.declared.ids.PassNo.{PassNo}
 use Rattle.vx_data.specs.declared.ids.ContextId.{ContextId}
 use Rattle.vx_data.specs.declared.ids.ConsumerId.{ConsumerId}
-use Rattle.vx_data.specs.declared.body.Tree.{Tree}
+use Rattle.vx_data.specs.Tree.{Tree}
 use Rattle.vx_message.specs.declared.Message.{Message}
 use Rattle.vx_message.specs.declared.Item.{Item}
 use Rattle.vx_message.specs.declared.ItemKind.TheVariants as kinds

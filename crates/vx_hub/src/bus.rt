@@ -42,6 +42,11 @@ impl Model for Bus {
 
     ghost Value = { BusStore };
 
+    ghost use Rattle.std.specs.Coded.{codes};
+    ghost use Rattle.vx_data.specs.contracts.body.Body as body;
+
+    ghost coded = { Prim.hlevel (codes, body.the_row.coded) };
+
     ghost view = { λ a. record {
       consumers = a.handlers.items;
       rounds = a.rounds.items;

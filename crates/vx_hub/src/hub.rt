@@ -33,6 +33,11 @@ impl Model for Hub {
 
     ghost Value = { HubStore };
 
+    ghost use Rattle.std.specs.Coded.{codes};
+    ghost use Rattle.vx_data.specs.contracts.body.Body as body;
+
+    ghost coded = { Prim.hlevel (codes, body.the_row.coded) };
+
     ghost view = { λ a. record { next = a.next; contexts = a.contexts; bus = a.bus } };
 
     ghost invariant = { λ a. AreOfOneHistory a.contexts a.bus };
