@@ -29,13 +29,13 @@ pub struct Hub {
 
 impl Model for Hub {
     ghost use Rattle.vx_hub.specs.Stores.{HubStore};
-    ghost use Rattle.vx_hub.specs.Stands.{AreOfOneHistory};
+    ghost use Rattle.vx_hub.specs.Stands.{IsOfHistory};
 
     ghost Value = { HubStore };
 
     ghost view = { λ a. record { next = a.next; contexts = a.contexts; bus = a.bus } };
 
-    ghost invariant = { λ a. AreOfOneHistory a.contexts a.bus };
+    ghost invariant = { λ a. IsOfHistory (record { next = a.next; contexts = a.contexts; bus = a.bus }) };
 }
 
 // Makes a plain call, as the entry of this number.
