@@ -7,3 +7,4 @@ pub mod RowRegister
 pub mod RowSend
 pub mod Views
 pub mod RowTake
+pub mod Calls

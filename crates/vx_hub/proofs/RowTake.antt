@@ -95,10 +95,13 @@ pub item_there : (store : ContextStore) (history : List Traced) (i : ℕ) (item 
 item_there store history i item stands inside read =
     let P : List Item → Type 0 = λ xs. i < length xs in
     let there : i < length (waiting history) = rw (← length-map (waiting history) item_of) (subst P stands.waiting inside) in
-    let first = first_of_all (waiting history) i there in
-    (get_or (waiting history) i first, (
-      record { inside = there; read = λ d. get_or_default (waiting history) i d first there },
-      read ∙ ap (λ xs. get_or xs i item) stands.waiting ∙ get_or-map item_of (waiting history) i first item there))
+    let first = first_of_all (waiting history) i there in (
+      get_or (waiting history) i first,
+      (
+        record { inside = there; read = λ d. get_or_default (waiting history) i d first there },
+        read ∙ ap (λ xs. get_or xs i item) stands.waiting ∙ get_or-map item_of (waiting history) i first item there,
+      ),
+    )
 
 -- no task before it is the same one
 pub is_first : (history : List Traced) (i : ℕ) (w : Waiting) → WaitsAt history i w → IsFirst (same_waiting w) (waiting history) i w

@@ -37,10 +37,14 @@ pub record StoresStand (context_store : ContextStore) (bus_store : BusStore) (hi
   pub contexts : ContextsStand context_store history
   pub bus : BusStands bus_store history
 
--- The hub stands for a legal history: its number of entries and its stores are those of the history.
-pub record StandsFor (hub : HubStore) (history : List Traced) : Type 0 where
+-- the hub's number of entries and its stores are those of the history
+pub record HubStands (hub : HubStore) (history : List Traced) : Type 0 where
   pub next : hub.next ≡ length history
   pub stores : StoresStand hub.contexts hub.bus history
+
+-- The hub stands for a history: its parts are those of the history, and each reply in the history is the machine's.
+pub record StandsFor (hub : HubStore) (history : List Traced) : Type 0 where
+  pub parts : HubStands hub history
   pub legal : IsLegal history
 
 -- ## What a call promises
@@ -87,6 +91,10 @@ IsNext at history = at.0 ≡ length history
 -- both stores are those of some history, legal or not
 abbrev pub AreOfOneHistory : ContextStore → BusStore → Type 0
 AreOfOneHistory contexts bus = ∥ ((history : List Traced) × StoresStand contexts bus history) ∥₁
+
+-- the hub's parts are those of some history, legal or not
+abbrev pub IsOfHistory : HubStore → Type 0
+IsOfHistory hub = ∥ ((history : List Traced) × HubStands hub history) ∥₁
 
 -- a consumer of this name and context has the next turn at an address
 pub record IsChosen (history : List Traced) (address : List ℕ) (id : ConsumerId) (context : ContextId) : Type 0 where

@@ -29,7 +29,7 @@ pub struct Hub {
 
 impl Model for Hub {
     ghost use Rattle.vx_hub.specs.Stores.{HubStore};
-    ghost use Rattle.vx_hub.specs.Stands.{AreOfOneHistory};
+    ghost use Rattle.vx_hub.specs.Stands.{IsOfHistory};
 
     ghost Value = { HubStore };
 
@@ -40,7 +40,7 @@ impl Model for Hub {
 
     ghost view = { λ a. record { next = a.next; contexts = a.contexts; bus = a.bus } };
 
-    ghost invariant = { λ a. AreOfOneHistory a.contexts a.bus };
+    ghost invariant = { λ a. IsOfHistory (record { next = a.next; contexts = a.contexts; bus = a.bus }) };
 }
 
 // Makes a plain call, as the entry of this number.

@@ -34,13 +34,7 @@ pub fn take(contexts: &mut Contexts, bus: &mut Bus, at: EntryNo, pass: PassNo, l
 }
 
 // Hands out the task that waits at a place: the next one of each lane that finds it there.
-fn hand_out(
-    contexts: &mut Contexts,
-    bus: &mut Bus,
-    at: EntryNo,
-    pass: PassNo,
-    index: usize,
-) -> Task
+fn hand_out(contexts: &mut Contexts, bus: &mut Bus, at: EntryNo, pass: PassNo, index: usize) -> Task
     requires inside { index < length contexts.old.waiting }
     requires one { AreOfOneHistory contexts.old bus.old }
     ensures { (history : List Traced) (lane : Lane) → StoresStand contexts.old bus.old history → IsNext at history → rows.take_refusal history pass lane ≡ None → position (is_ready contexts.old.held lane) contexts.old.waiting ≡ Some index → Follows contexts.new bus.new history pass (calls.Take lane) (Reply.Task result) }
