@@ -1,4 +1,5 @@
 pub mod Bodies
+pub mod BodyText
 pub mod NodeFalls
 pub mod Nodes
 pub mod Stored

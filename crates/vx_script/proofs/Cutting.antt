@@ -1,0 +1,102 @@
+-- The first line of a script, and the calls of its lines.
+use Rattle.std.proofs.Common.{◌≡◌, ℕ, ◌+◌, ◌-◌, ◌<◌, ◌≤◌, List, [], ◌∷◌, ◌++◌, length, take, drop, Bool, true, false, cond, ◌==◌, rules, arith, refl, sym, ◌∙◌, ap, tests, append_assoc, Option, Some, None, Result, Ok, Err, subst, length-drop}
+use Rattle.std.specs.List.{slice_split, onto_first, position_or_len, All}
+use Rattle.std.specs.Option.{option_to_list}
+use Rattle.std.specs.Str.Lines.{lines, strip_carriage_return}
+use Rattle.std.proofs.lemmas.List.{nil_from_length, append-nil, take_rest, drop-drop}
+use Rattle.std.proofs.Math.Seq.{take-length}
+use Rattle.std.proofs.lemmas.List.Sums.{fails_before_first, prefix_len-le-length}
+use Rattle.std.proofs.lemmas.List.Splits.{slice_split_first, slice_split_none}
+use Rattle.vx_call.specs.declared.call.Call.{Call}
+use Rattle.vx_script.specs.declared.fault.LineWhy.{LineWhy}
+use Rattle.vx_script.specs.declared.fault.LineFault.{LineFault}
+use Rattle.vx_script.specs.declared.fault.LineFault.TheVariants as faults
+use Rattle.vx_script.specs.Reading.{line_at, Fails}
+use Rattle.vx_script.specs.Lines.{Bad, with_front, with_line, calls_from, calls_of, Adds, numbered, ScriptFails}
+
+abbrev pub newline : ℕ → Bool
+newline b = b == 10
+
+not_zero : (n : ℕ) → 0 < n → n == 0 ≡ false
+not_zero n h = search (rules, tests)
+
+position_or_len_le : (bs : List ℕ) → position_or_len newline bs ≤ length bs
+position_or_len_le bs = prefix_len-le-length _ bs
+
+-- there is a first part
+parts : (bs : List ℕ) → (x : List ℕ) × (more : List (List ℕ)) × (slice_split newline bs ≡ x ∷ more)
+parts [] = ([], [], refl)
+parts (b ∷ bs) = one b bs (newline b) (slice_split newline bs)
+  where
+    one : (b : ℕ) (bs : List ℕ) (t : Bool) (ps : List (List ℕ)) → (x : List ℕ) × (more : List (List ℕ)) × (cond t ([] ∷ ps) (onto_first b ps) ≡ x ∷ more)
+    one b bs true ps = ([], ps, refl)
+    one b bs false [] = (b ∷ [], [], refl)
+    one b bs false (p ∷ ps) = (b ∷ p, ps, refl)
+
+pub cut_found : (bs : List ℕ) (n : ℕ) → n ≡ position_or_len newline bs → n < length bs → lines bs ≡ strip_carriage_return (take n bs) ∷ lines (drop (n + 1) bs)
+cut_found bs n e h =
+    let k : position_or_len newline bs < length bs = subst (λ (v : ℕ). v < length bs) e h in
+    let s = slice_split_first newline bs 0 k in
+    let p = parts (drop (position_or_len newline bs + 1) bs) in
+    rw (e, s, p.2) refl
+
+pub cut_last : (bs : List ℕ) → position_or_len newline bs ≡ length bs → 0 < length bs → lines bs ≡ bs ∷ []
+cut_last bs e h =
+    let all : All (λ x. newline x ≡ false) bs = λ k d within. fails_before_first newline bs k d (subst (λ (v : ℕ). k < v) (sym e) within) in
+    rw (slice_split_none newline bs all) (ap (λ t. cond t [] (bs ∷ [])) (not_zero (length bs) h))
+
+-- what the code cuts, in its own words
+pub cut_whole : (bs : List ℕ) (n : ℕ) (front back : List ℕ) → n ≡ position_or_len newline bs → 0 < length bs → front ≡ take n bs → back ≡ drop n bs → length back ≡ 0 → lines bs ≡ front ∷ lines back
+cut_whole bs n front back e some f g none =
+    let k : n ≡ length bs = omega (arith, length-drop n bs, ap length g, position_or_len_le bs) in
+    let l : lines bs ≡ bs ∷ [] = cut_last bs (sym e ∙ k) some in
+    let h : back ≡ [] = nil_from_length back none in
+    let q : front ≡ bs = f ∙ ap (λ v. take v bs) k ∙ take-length bs in
+    rw (h, q) l
+
+pub cut_first : (bs : List ℕ) (n : ℕ) (front back line : List ℕ) → n ≡ position_or_len newline bs → front ≡ take n bs → back ≡ drop n bs → line ≡ strip_carriage_return front → 1 ≤ length back →
+    lines bs ≡ line ∷ lines (take (length back - 1) (drop 1 back))
+cut_first bs n front back line e f g s some =
+    let k : n < length bs = omega (arith, length-drop n bs, ap length g) in
+    let d : take (length back - 1) (drop 1 back) ≡ drop (n + 1) bs = take_rest back 1 ∙ ap (λ v. drop 1 v) g ∙ drop-drop 1 n bs in
+    rw (d, s, f) (cut_found bs n e k)
+
+-- the steps of reading a script
+front_twice : (xs ys : List Call) (r : Result (List Call) Bad) → with_front xs (with_front ys r) ≡ with_front (xs ++ ys) r
+front_twice xs ys (Ok zs) = ap Ok (sym (append_assoc xs ys zs))
+front_twice xs ys (Err e) = refl
+
+adds : (n : ℕ) (made : Result (Option Call) LineWhy) (calls new : List Call) (more all : Result (List Call) Bad) →
+    with_front calls (with_line n made more) ≡ all → Adds made calls new → with_front new more ≡ all
+adds n (Err why) calls new more all h a = absurd a
+adds n (Ok said) calls new more all h a = rw a (sym (front_twice calls (option_to_list said) more) ∙ h)
+
+-- one line, the rest of which is told as before
+pub step : (calls new : List Call) (n : ℕ) (rest line after : List ℕ) (all : Result (List Call) Bad) →
+    with_front calls (calls_from (n + 1) (lines rest)) ≡ all → lines rest ≡ line ∷ lines after → Adds (line_at line) calls new →
+    with_front new (calls_from (n + 1 + 1) (lines after)) ≡ all
+unfolding calls_from
+step calls new n rest line after all h cut a = adds (n + 1) (line_at line) calls new (calls_from (n + 1 + 1) (lines after)) all (rw cut at h) a
+
+bad : (n : ℕ) (made : Result (Option Call) LineWhy) (calls : List Call) (more all : Result (List Call) Bad) (e : LineFault) →
+    with_front calls (with_line n made more) ≡ all → Fails e made → ScriptFails (numbered n e) all
+bad n made calls more all faults.NoMemory h f = tt
+bad n made calls more all (faults.Bad why) h f = sym h ∙ ap (λ m. with_front calls (with_line n m more)) f
+
+-- the first line in no form
+pub step_bad : (calls : List Call) (n : ℕ) (rest line after : List ℕ) (all : Result (List Call) Bad) (e : LineFault) →
+    with_front calls (calls_from (n + 1) (lines rest)) ≡ all → lines rest ≡ line ∷ lines after → Fails e (line_at line) → ScriptFails (numbered (n + 1) e) all
+unfolding calls_from
+step_bad calls n rest line after all e h cut f = bad (n + 1) (line_at line) calls (calls_from (n + 1 + 1) (lines after)) all e (rw cut at h) f
+
+pub ends : (calls : List Call) (n : ℕ) (rest : List ℕ) (all : Result (List Call) Bad) → with_front calls (calls_from (n + 1) (lines rest)) ≡ all → length rest ≡ 0 → all ≡ Ok calls
+unfolding calls_from
+ends calls n rest all h e = let k : rest ≡ [] = nil_from_length rest e in sym (rw k at h) ∙ ap Ok (append-nil calls)
+
+pub begins : (bytes : List ℕ) (calls : List Call) → calls ≡ [] → with_front calls (calls_from (0 + 1) (lines bytes)) ≡ calls_of bytes
+unfolding calls_of
+begins bytes calls e = rw e (same (calls_from 1 (lines bytes)))
+  where
+    same : (r : Result (List Call) Bad) → with_front [] r ≡ r
+    same (Ok cs) = refl
+    same (Err b) = refl

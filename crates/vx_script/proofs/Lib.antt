@@ -1,0 +1,13 @@
+pub mod Digits
+pub mod Texts
+pub mod Cutting
+pub mod Words
+pub mod Bodies
+pub mod Values
+pub mod Forms
+pub mod Scripts
+pub mod Joined
+pub mod Histories
+pub mod Command
+pub mod LegalRuns
+pub mod Settled

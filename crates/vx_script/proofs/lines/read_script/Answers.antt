@@ -1,0 +1,24 @@
+use Rattle.std.proofs.Common.{arith, rules}
+use Rattle.vx_script.proofs.Cutting.{begins, step, step_bad, ends}
+use Rattle.vx_script.proofs.lines.read_script.Goals as goal
+
+pub loop-rest-init : goal.loop-rest-init
+loop-rest-init c = record {
+  told = begins c.args.bytes.now c.new-calls.result.items c.new-calls.ensures.items;
+  each = omega arith;
+  few = omega arith;
+}
+
+pub returns-in-Err-clause-calls : goal.returns-in-Err-clause-calls
+returns-in-Err-clause-calls c =
+    rw c.numbered.ensures (step_bad c.loop-rest.calls.items c.loop-rest.number c.loop-rest.rest.now c.cut_line.result.0.now c.cut_line.result.1.now _ c.in-Err.fault c.loop-rest.invariant.told c.cut_line.ensures.cut c.in-Err.ensures.err)
+
+pub loop-rest-preserved : goal.loop-rest-preserved
+loop-rest-preserved c = record {
+  told = step c.loop-rest.calls.items c.read_into.new.calls.items c.loop-rest.number c.loop-rest.rest.now c.cut_line.result.0.now c.cut_line.result.1.now _ c.loop-rest.invariant.told c.cut_line.ensures.cut c.in-Ok.ensures.ok;
+  each = omega arith;
+  few = omega arith;
+}
+
+pub returns-clause-calls : goal.returns-clause-calls
+returns-clause-calls c = ends c.loop-rest.calls.items c.loop-rest.number c.loop-rest.rest.now _ c.loop-rest.invariant.told (search rules)

@@ -1,0 +1,13 @@
+use Rattle.std.proofs.Common.{◌≤◌, ◌+◌, length}
+use Rattle.std.specs.Vec.Iter.{into_iter_items, into_iter_len}
+use Rattle.vx_hub.specs.Stands.{StandsFor}
+use Rattle.vx_script.specs.Playing.{Goes}
+use Rattle.vx_script.specs.declared.limit.TheConstants.{LIMIT}
+use Rattle.vx_script.proofs.playing.make_all.Given as goal
+
+abbrev pub invariant-loop-call : goal.invariant-loop-call
+invariant-loop-call g l = record {
+  goes : Goes (StandsFor l.hub) (g.K.Sink.held l.fn.sink) (g.K.Sink.held l.sink) l.at (into_iter_items l.call-iterator) l.fn.calls.items;
+  few : l.at + into_iter_len l.call-iterator ≤ LIMIT;
+  later : g.K.Sink.faults l.fn.sink ≤ g.K.Sink.faults l.sink;
+}

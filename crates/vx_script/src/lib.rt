@@ -1,0 +1,25 @@
+//! Scripts: lines of text that make calls of a hub, and a line of text for each reply.
+#![tactic(auto)]
+
+mod body;
+mod fault;
+mod laws;
+mod limit;
+mod line;
+mod lines;
+mod piece;
+mod playing;
+mod reply;
+mod script;
+mod status;
+mod text;
+
+pub use fault::LineWhy;
+pub use laws::{lines_are_read_as_spelled, scripts_are_read_as_spelled};
+pub use limit::LIMIT;
+pub use reply::write_reply;
+pub use script::script;
+pub use status::Status;
+
+#[cfg(test)]
+mod tests;

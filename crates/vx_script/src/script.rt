@@ -1,0 +1,79 @@
+ghost use Rattle.std.specs.Prelude.{◌≡◌, ◌≢◌, ◌↔◌, ◌≤◌, IsTrue, [], ◌∷◌, codes, ℕ, List, length, Some, Ok};
+ghost use Rattle.vx_io.specs.Faults.{Rose};
+ghost use Rattle.vx_call.specs.declared.call.Call.{Call};
+ghost use Rattle.vx_script.specs.Lines.{calls_of};
+ghost use Rattle.vx_call.specs.Machine.{IsLegal};
+ghost use Rattle.vx_script.specs.Playing.{history_of};
+ghost use Rattle.vx_script.specs.Outcome.{IsOutcome, IsSettled};
+
+use crate::fault::ScriptFault;
+use crate::limit::LIMIT;
+use crate::lines::read_script;
+use crate::playing::make_all;
+use crate::status::Status;
+use std::alloc::Global;
+use vx_data::Text;
+use vx_hub::Hub;
+use vx_io::{ReadAllFault, Sink, SinkFault, Source, read_all};
+
+fn is_run(words: &[Text]) -> bool
+    ensures { IsTrue result ↔ (words.now ≡ codes "run" ∷ []) }
+{
+    match words {
+        [word] => word.bytes() == b"run".as_slice(),
+        _ => false,
+    }
+}
+
+fn run<S: Source, K: Sink>(alloc: Global, words: &[Text], source: &mut S, sink: &mut K) -> Status
+    ensures usage { (result ≡ Status.Usage) ↔ (words.now ≢ codes "run" ∷ []) }
+    ensures outcome { IsOutcome (S.left source.old) (S.left source.new) (K.held sink.old) (K.held sink.new) result }
+    ensures read_fault { result ≡ Status.ReadFault → Rose (S.faults source.old) (S.faults source.new) }
+    ensures write_fault { result ≡ Status.WriteFault → Rose (K.faults sink.old) (K.faults sink.new) }
+{
+    if !is_run(words) {
+        return Status::Usage;
+    }
+    let bytes = match read_all(alloc, source, LIMIT) {
+        Ok(bytes) => bytes,
+        Err(ReadAllFault::Failed) => return Status::ReadFault,
+        Err(ReadAllFault::NoMemory) => return Status::NoMemory,
+        Err(ReadAllFault::TooLong(count)) => return Status::TooLong(count),
+    };
+    let calls = match read_script(alloc, &bytes) {
+        Ok(calls) => calls,
+        Err(ScriptFault::NoMemory) => return Status::NoMemory,
+        Err(ScriptFault::BadLine(line, why)) => return Status::BadLine { line, why },
+    };
+    let mut hub = Hub::new(alloc);
+    match make_all(alloc, &mut hub, calls, sink) {
+        Ok(()) => Status::Done,
+        Err(SinkFault::Failed) => Status::WriteFault,
+        Err(SinkFault::NoMemory) => Status::NoMemory,
+    }
+}
+
+/// Reads the source to its end, checks all lines, makes their calls on a new hub, and writes a line
+/// for each reply.
+pub fn script<S: Source, K: Sink>(
+    alloc: Global,
+    words: &[Text],
+    source: &mut S,
+    sink: &mut K,
+) -> Status
+    // `run` is the one command.
+    ensures usage { (result ≡ Status.Usage) ↔ (words.now ≢ codes "run" ∷ []) }
+    ensures outcome { IsOutcome (S.left source.old) (S.left source.new) (K.held sink.old) (K.held sink.new) result }
+    ensures read_fault { result ≡ Status.ReadFault → Rose (S.faults source.old) (S.faults source.new) }
+    ensures write_fault { result ≡ Status.WriteFault → Rose (K.faults sink.old) (K.faults sink.new) }
+
+    // Every reply of the history of good lines is the machine's.
+    ensures legal { (bytes : List ℕ) (calls : List Call) → length bytes ≤ LIMIT → calls_of bytes ≡ Ok calls → IsLegal (history_of calls) }
+
+    // Good lines, not too many, are made and answered, unless a read or a write fails, or memory runs out.
+    ensures complete { (bytes : List ℕ) (calls : List Call) → words.now ≡ codes "run" ∷ [] → S.left source.old ≡ Some bytes
+        → length bytes ≤ LIMIT → calls_of bytes ≡ Ok calls → ¬ Rose (S.faults source.old) (S.faults source.new)
+        → ¬ Rose (K.faults sink.old) (K.faults sink.new) → IsSettled result }
+{
+    run(alloc, words, source, sink)
+}
