@@ -5,8 +5,8 @@ use Rattle.vx_data.specs.declared.ids.PassNo.{PassNo}
 use Rattle.vx_data.specs.declared.ids.ContextId.{ContextId}
 use Rattle.vx_data.specs.declared.ids.ConsumerId.{ConsumerId}
 use Rattle.vx_data.specs.declared.ids.MessageId.{MessageId}
-use Rattle.vx_data.specs.declared.body.Tree.{Tree}
-use Rattle.vx_data.specs.declared.body.Tree.TheVariants as trees
+use Rattle.vx_data.specs.Tree.{Tree}
+use Rattle.vx_data.specs.Tree as tree
 use Rattle.vx_message.specs.declared.Lane.TheVariants as lanes
 use Rattle.vx_call.specs.declared.call.Call.{Call}
 use Rattle.vx_call.specs.declared.call.Call.TheVariants as calls
@@ -41,7 +41,7 @@ abbrev pub register : List ℕ → Call
 register address = calls.Register (context 0) address
 
 abbrev pub send : List ℕ → ℕ → Call
-send address number = calls.Send address (trees.Int (pos number))
+send address number = calls.Send address (tree.int (pos number))
 
 abbrev pub take : Call
 take = calls.Take (lanes.Own (context 0))
@@ -61,10 +61,10 @@ refused refusal = replies.Refused refusal
 -- ## One message from a sender to a handler
 
 abbrev pub one_message : List Call
-one_message = calls.NewContext ∷ register (codes "news") ∷ calls.Send (codes "news") (trees.Text (codes "hi")) ∷ take ∷ finish ∷ []
+one_message = calls.NewContext ∷ register (codes "news") ∷ calls.Send (codes "news") (tree.text (codes "hi")) ∷ take ∷ finish ∷ []
 
 abbrev pub one_message_replies : List Reply
-one_message_replies = replies.Context (context 0) ∷ replies.Consumer (consumer 1) ∷ sent_to 1 ∷ delivered 1 2 (codes "news") (trees.Text (codes "hi")) ∷ replies.Done ∷ []
+one_message_replies = replies.Context (context 0) ∷ replies.Consumer (consumer 1) ∷ sent_to 1 ∷ delivered 1 2 (codes "news") (tree.text (codes "hi")) ∷ replies.Done ∷ []
 
 -- ## A message to an address without handlers
 
@@ -88,7 +88,7 @@ abbrev pub two_takes : List Call
 two_takes = calls.NewContext ∷ register (codes "a") ∷ send (codes "a") 1 ∷ take ∷ take ∷ finish ∷ []
 
 abbrev pub two_takes_replies : List Reply
-two_takes_replies = replies.Context (context 0) ∷ replies.Consumer (consumer 1) ∷ sent_to 1 ∷ delivered 1 2 (codes "a") (trees.Int (pos 1)) ∷ refused (refusals.Holding (entry 3)) ∷ replies.Done ∷ []
+two_takes_replies = replies.Context (context 0) ∷ replies.Consumer (consumer 1) ∷ sent_to 1 ∷ delivered 1 2 (codes "a") (tree.int (pos 1)) ∷ refused (refusals.Holding (entry 3)) ∷ replies.Done ∷ []
 
 -- ## A pass that holds nothing finishes nothing
 
