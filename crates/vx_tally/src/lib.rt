@@ -9,4 +9,4 @@ mod uses;
 
 pub use label::{Label, Plain};
 pub use tally::{Addition, Entry, Tally, Told};
-pub use uses::{add_many, both, bump, twin};
+pub use uses::{add_many, both, bump, bump_slowly, meet, try_bump, twin, wake};

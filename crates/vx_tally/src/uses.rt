@@ -3,7 +3,7 @@ ghost use Rattle.std.specs.Prelude.{◌≡◌, ℕ, ◌<◌, List, [], ◌++◌,
 ghost use mathlib.Core.List.{IsPrefix};
 ghost use Rattle.std.specs.List.{enumerate_from};
 ghost use Rattle.vx_turn.specs.Entries.{entries_of};
-ghost use Rattle.vx_turn.specs.Caller.{mine_of, newcomer};
+ghost use Rattle.vx_turn.specs.Caller.{mine_of, newcomer, IsBusy};
 ghost use Rattle.vx_turn.specs.Passes.{place, place_of, place_in, caller, caller_in, number, numbers, seen, number_in, seen_in, machine_in, mine};
 ghost use Rattle.vx_tally.specs.declared.tally.Entry.{Entry};
 ghost use Rattle.vx_tally.specs.Tallies.{StandsFor, IsLegal, pass_of};
@@ -12,9 +12,10 @@ ghost use Rattle.vx_tally.specs.Calls.{said, Called, AddsInOrder};
 use crate::label::{Label, Plain};
 use crate::tally::Tally;
 use std::sync::Wait;
-use std::thread::{Threads, join};
+use std::thread::{Threads, join, sleep};
+use std::time::{Clock, Duration};
 use vx_data::PassNo;
-use vx_turn::{Pass, Shared, Spent, Turn};
+use vx_turn::{Busy, Pass, Shared, Spent, Turn};
 
 // Ends the turn in which an addition was told this.
 fn close<L: Label>(
@@ -79,6 +80,100 @@ pub fn twin<R: Wait, L: Label>(
     let mut turn = shared.enter(rt, pass);
     let new = turn.split();
     (turn.leave(), new)
+}
+
+/// The same where no other pass has the turn or waits for it.
+pub fn try_bump<L: Label>(
+    shared: &Shared<Tally<L>>,
+    pass: Pass<Tally<L>>,
+    amount: u64,
+    label: L,
+) -> Result<(Pass<Tally<L>>, Option<u64>), Busy<Tally<L>>>
+    requires { place_of pass ≡ place shared.now }
+    ensures place { IfOk result (λ done. place_of done.0 ≡ place_of pass) }
+    ensures called { IfOk result (λ done. Called (caller pass) amount (L.name label) done.1 (caller done.0)) }
+    ensures back { IfErr result (λ busy. place_of busy.pass ≡ place_of pass) }
+    ensures busy { IfErr result (λ busy. IsBusy (caller pass) (caller busy.pass) busy.serving busy.ticket) }
+{
+    let PassNo(number) = pass.number();
+    let name = label.name();
+    match shared.try_enter(pass) {
+        Ok(mut turn) => {
+            let told = sum_after(turn.machine(), PassNo(number), amount, label);
+            Ok((close(turn, number, amount, name, told), told))
+        }
+        Err(busy) => Err(busy),
+    }
+}
+
+/// Tries to add while another pass has the turn.
+pub fn meet<R: Wait, L: Label>(
+    rt: &R,
+    shared: &Shared<Tally<L>>,
+    one: Pass<Tally<L>>,
+    two: Pass<Tally<L>>,
+    label: L,
+) -> (
+    Pass<Tally<L>>,
+    Result<(Pass<Tally<L>>, Option<u64>), Busy<Tally<L>>>,
+)
+    requires one { place_of one ≡ place shared.now }
+    requires two { place_of two ≡ place shared.now }
+    ensures place { place_of result.0 ≡ place_of one }
+    ensures back { IfErr result.1 (λ busy. place_of busy.pass ≡ place_of two) }
+{
+    let turn = shared.enter(rt, one);
+    let tried = try_bump(shared, two, 1, label);
+    (turn.leave(), tried)
+}
+
+/// Adds in a turn that lasts for a while.
+pub fn bump_slowly<R: Wait + Clock>(
+    rt: &R,
+    shared: &Shared<Tally<Plain>>,
+    pass: Pass<Tally<Plain>>,
+    pause: Duration,
+) -> Pass<Tally<Plain>>
+    requires { place_of pass ≡ place shared.now }
+    ensures { place_of result ≡ place_of pass }
+{
+    let PassNo(number) = pass.number();
+    let mut turn = shared.enter(rt, pass);
+    sleep(rt, pause);
+    let told = sum_after(turn.machine(), PassNo(number), 1, Plain(0));
+    close(turn, number, 1, 0, told)
+}
+
+/// One thread waits for a change and adds then; the other adds in two long turns.
+pub fn wake<R: Threads + Wait + Clock + Sync>(
+    rt: &R,
+    shared: &Shared<Tally<Plain>>,
+    mut one: Pass<Tally<Plain>>,
+    two: Pass<Tally<Plain>>,
+    pause: Duration,
+) -> Pass<Tally<Plain>>
+    requires one { place_of one ≡ place shared.now }
+    requires two { place_of two ≡ place shared.now }
+    ensures { place_of result ≡ place_of one }
+{
+    let (one, two) = join(
+        rt,
+        move || -> Pass<Tally<Plain>>
+            requires { place_of one ≡ place shared.now }
+            ensures { place_of result ≡ place_of one }
+        {
+            shared.await_change(rt, &mut one);
+            bump(rt, shared, one, 1, Plain(1)).0
+        },
+        || -> Pass<Tally<Plain>>
+            requires { place_of two ≡ place shared.now }
+            ensures { place_of result ≡ place_of two }
+        {
+            let two = bump_slowly(rt, shared, two, pause);
+            bump_slowly(rt, shared, two, pause)
+        },
+    );
+    shared.join(one, two)
 }
 
 /// Adds the amounts 0, 1, 2 and so on in as many turns, and answers how many there were: `count`, unless the history is full.
