@@ -1,0 +1,102 @@
+//! How many additions a second go through the turn, and how many through std's `Mutex` round the same machine.
+//!
+//! The rates are printed on standard error, and `ok` on standard output. The argument is the number of additions a thread makes.
+#![tactic(auto)]
+
+ghost use Rattle.std.specs.Prelude.{◌≡◌, IfOk};
+ghost use Rattle.vx_turn.specs.Passes.{place, place_of};
+
+use anyhow::{Result, anyhow};
+use std::alloc::Global;
+use std::env;
+use std::sync::{Mutex, Wait};
+use std::thread::{Threads, join};
+use std::time::{Clock, Duration, Instant};
+use vx_data::PassNo;
+use vx_tally::{Plain, Tally, add_many, both, twin};
+use vx_turn::{Pass, Shared};
+
+/// How many additions a thread makes, if no argument says it.
+const ADDITIONS: u64 = 1_000_000;
+
+fn opened(alloc: Global) -> Result<(Shared<Tally<Plain>>, Pass<Tally<Plain>>)>
+    ensures { IfOk result (λ opened. place_of opened.1 ≡ place opened.0) }
+{
+    match Shared::open(alloc, Tally::new()) {
+        Ok(opened) => Ok(opened),
+        Err(_) => Err(anyhow!("no memory")),
+    }
+}
+
+/// One pass enters, adds and leaves, without another.
+fn turn_alone<R: Wait + Clock>(rt: &R, alloc: Global, count: u64) -> Result<Duration> {
+    let (shared, pass) = opened(alloc)?;
+    let start = Instant::now(rt)?;
+    let _ = add_many(rt, &shared, pass, count);
+    Ok(start.elapsed(rt)?)
+}
+
+/// Two passes do so against each other, each on a thread.
+fn turn_by_two<R: Threads + Wait + Clock + Sync>(
+    rt: &R,
+    alloc: Global,
+    count: u64,
+) -> Result<Duration> {
+    let (shared, one) = opened(alloc)?;
+    let (one, Ok(two)) = twin(rt, &shared, one) else {
+        return Err(anyhow!("spent"));
+    };
+    let start = Instant::now(rt)?;
+    let _ = both(rt, &shared, one, two, count);
+    Ok(start.elapsed(rt)?)
+}
+
+fn lock_many<R: Wait>(rt: &R, tally: &Mutex<Tally<Plain>>, count: u64) {
+    for amount in 0..count {
+        let _ = tally.lock(rt).add(PassNo(0), amount, Plain(amount));
+    }
+}
+
+/// One thread locks, adds and unlocks, without another.
+fn mutex_alone<R: Wait + Clock>(rt: &R, count: u64) -> Result<Duration> {
+    let tally = Mutex::new(Tally::new());
+    let start = Instant::now(rt)?;
+    lock_many(rt, &tally, count);
+    Ok(start.elapsed(rt)?)
+}
+
+/// Two threads do so against each other.
+fn mutex_by_two<R: Threads + Wait + Clock + Sync>(rt: &R, count: u64) -> Result<Duration> {
+    let tally = Mutex::new(Tally::new());
+    let start = Instant::now(rt)?;
+    join(
+        rt,
+        || lock_many(rt, &tally, count),
+        || lock_many(rt, &tally, count),
+    );
+    Ok(start.elapsed(rt)?)
+}
+
+/// How many a second that is.
+fn rate(count: u64, took: Duration) -> u128 {
+    u128::from(count) * 1_000_000_000 / took.as_nanos().max(1)
+}
+
+fn main(rt: HostRuntime) -> Result<()> {
+    let alloc = rt.alloc();
+    let count = match env::args(&rt)?.nth(1) {
+        Some(word) => word.parse()?,
+        None => ADDITIONS,
+    };
+    let both_counts = count.saturating_mul(2);
+    let turn = turn_alone(&rt, alloc, count)?;
+    let mutex = mutex_alone(&rt, count)?;
+    eprintln!(rt; "one thread, turn:   {} a second", rate(count, turn))?;
+    eprintln!(rt; "one thread, mutex:  {} a second", rate(count, mutex))?;
+    let turn = turn_by_two(&rt, alloc, count)?;
+    let mutex = mutex_by_two(&rt, count)?;
+    eprintln!(rt; "two threads, turn:  {} a second", rate(both_counts, turn))?;
+    eprintln!(rt; "two threads, mutex: {} a second", rate(both_counts, mutex))?;
+    println!(rt; "ok")?;
+    Ok(())
+}
