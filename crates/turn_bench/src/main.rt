@@ -19,6 +19,9 @@ use vx_turn::{Pass, Shared};
 /// How many additions a thread makes, if no argument says it.
 const ADDITIONS: u64 = 1_000_000;
 
+/// How many rounds are measured.
+const ROUNDS: u64 = 5;
+
 fn opened(alloc: Global) -> Result<(Shared<Tally<Plain>>, Pass<Tally<Plain>>)>
     ensures { IfOk result (λ opened. place_of opened.1 ≡ place opened.0) }
 {
@@ -77,6 +80,45 @@ fn mutex_by_two<R: Threads + Wait + Clock + Sync>(rt: &R, count: u64) -> Result<
     Ok(start.elapsed(rt)?)
 }
 
+/// What each of the four takes, added up over rounds.
+#[derive(Drop)]
+struct Times {
+    turn_alone: Duration,
+    mutex_alone: Duration,
+    turn_by_two: Duration,
+    mutex_by_two: Duration,
+}
+
+impl Times {
+    fn none() -> Times {
+        Times {
+            turn_alone: Duration::ZERO,
+            mutex_alone: Duration::ZERO,
+            turn_by_two: Duration::ZERO,
+            mutex_by_two: Duration::ZERO,
+        }
+    }
+
+    /// With one round more.
+    fn plus<R: Threads + Wait + Clock + Sync>(
+        &self,
+        rt: &R,
+        alloc: Global,
+        count: u64,
+    ) -> Result<Times> {
+        let turn_alone = turn_alone(rt, alloc, count)?;
+        let mutex_alone = mutex_alone(rt, count)?;
+        let turn_by_two = turn_by_two(rt, alloc, count)?;
+        let mutex_by_two = mutex_by_two(rt, count)?;
+        Ok(Times {
+            turn_alone: self.turn_alone.saturating_add(turn_alone),
+            mutex_alone: self.mutex_alone.saturating_add(mutex_alone),
+            turn_by_two: self.turn_by_two.saturating_add(turn_by_two),
+            mutex_by_two: self.mutex_by_two.saturating_add(mutex_by_two),
+        })
+    }
+}
+
 /// How many a second that is.
 fn rate(count: u64, took: Duration) -> u128 {
     u128::from(count) * 1_000_000_000 / took.as_nanos().max(1)
@@ -88,15 +130,30 @@ fn main(rt: HostRuntime) -> Result<()> {
         Some(word) => word.parse()?,
         None => ADDITIONS,
     };
-    let both_counts = count.saturating_mul(2);
-    let turn = turn_alone(&rt, alloc, count)?;
-    let mutex = mutex_alone(&rt, count)?;
-    eprintln!(rt; "one thread, turn:   {} a second", rate(count, turn))?;
-    eprintln!(rt; "one thread, mutex:  {} a second", rate(count, mutex))?;
-    let turn = turn_by_two(&rt, alloc, count)?;
-    let mutex = mutex_by_two(&rt, count)?;
-    eprintln!(rt; "two threads, turn:  {} a second", rate(both_counts, turn))?;
-    eprintln!(rt; "two threads, mutex: {} a second", rate(both_counts, mutex))?;
+    // A first round warms up, and is not counted.
+    let _ = Times::none().plus(&rt, alloc, count)?;
+    let mut times = Times::none();
+    for _ in 0..ROUNDS {
+        times = times.plus(&rt, alloc, count)?;
+    }
+    let alone = count.saturating_mul(ROUNDS);
+    let by_two = alone.saturating_mul(2);
+    eprintln!(rt;
+        "one thread, turn:   {} a second",
+        rate(alone, times.turn_alone)
+    )?;
+    eprintln!(rt;
+        "one thread, mutex:  {} a second",
+        rate(alone, times.mutex_alone)
+    )?;
+    eprintln!(rt;
+        "two threads, turn:  {} a second",
+        rate(by_two, times.turn_by_two)
+    )?;
+    eprintln!(rt;
+        "two threads, mutex: {} a second",
+        rate(by_two, times.mutex_by_two)
+    )?;
     println!(rt; "ok")?;
     Ok(())
 }
