@@ -1,3 +1,6 @@
+ghost use Rattle.std.specs.Prelude.{◌≡◌, IfSome};
+ghost use Rattle.vx_turn.specs.Passes.{place, place_of};
+
 use crate::label::Plain;
 use crate::tally::Tally;
 use crate::uses::{both, bump, meet, try_bump, twin, wake};
@@ -7,15 +10,20 @@ use std::time::Duration;
 use vx_data::PassNo;
 use vx_turn::{Busy, Pass, Shared};
 
-fn opened(alloc: Global) -> Option<(Shared<Tally<Plain>>, Pass<Tally<Plain>>)> {
+fn opened(alloc: Global) -> Option<(Shared<Tally<Plain>>, Pass<Tally<Plain>>)>
+    ensures { IfSome result (λ opened. place_of opened.1 ≡ place opened.0) }
+{
     Shared::open(alloc, Tally::new()).ok()
 }
 
 #[test]
 fn two_threads_of_100_calls(rt: HostRuntime) -> Result<(), Fail> {
-    let (shared, one) = opened(rt.alloc()).ok_or("memory")?;
-    let (one, two) = twin(&rt, &shared, one);
-    let two = two.ok().ok_or("spent")?;
+    let Some((shared, one)) = opened(rt.alloc()) else {
+        return Err("no memory".into());
+    };
+    let (one, Ok(two)) = twin(&rt, &shared, one) else {
+        return Err("spent".into());
+    };
     let PassNo(number) = two.number();
     assert_eq!(rt; number, 1);
     let (mut pass, first, second) = both(&rt, &shared, one, two, 100);
@@ -30,9 +38,12 @@ fn two_threads_of_100_calls(rt: HostRuntime) -> Result<(), Fail> {
 
 #[test]
 fn busy_while_another_pass_has_the_turn(rt: HostRuntime) -> Result<(), Fail> {
-    let (shared, one) = opened(rt.alloc()).ok_or("memory")?;
-    let (one, two) = twin(&rt, &shared, one);
-    let two = two.ok().ok_or("spent")?;
+    let Some((shared, one)) = opened(rt.alloc()) else {
+        return Err("no memory".into());
+    };
+    let (one, Ok(two)) = twin(&rt, &shared, one) else {
+        return Err("spent".into());
+    };
     let (_one, tried) = meet(&rt, &shared, one, two, Plain(0));
     let Err(
         Busy {
@@ -54,9 +65,12 @@ fn busy_while_another_pass_has_the_turn(rt: HostRuntime) -> Result<(), Fail> {
 
 #[test]
 fn sleepers_wake(rt: HostRuntime) -> Result<(), Fail> {
-    let (shared, one) = opened(rt.alloc()).ok_or("memory")?;
-    let (one, two) = twin(&rt, &shared, one);
-    let two = two.ok().ok_or("spent")?;
+    let Some((shared, one)) = opened(rt.alloc()) else {
+        return Err("no memory".into());
+    };
+    let (one, Ok(two)) = twin(&rt, &shared, one) else {
+        return Err("spent".into());
+    };
     let mut pass = wake(&rt, &shared, one, two, Duration::from_millis(20));
     assert_eq!(rt; shared.front(&mut pass), 4);
     Ok(())

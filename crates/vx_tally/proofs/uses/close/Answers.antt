@@ -1,4 +1,4 @@
-use Rattle.std.proofs.Common.{rules, ◌≡◌, ◌++◌, All, ℕ, sym, subst}
+use Rattle.std.proofs.Common.{rules, ◌≡◌, ◌++◌, All, sym, subst}
 use Rattle.vx_turn.specs.Passes.{machine_in, seen_in, number_in}
 use Rattle.vx_tally.specs.Tallies.{StandsFor, IsLegal, pass_of}
 use Rattle.vx_tally.specs.Calls.{said}

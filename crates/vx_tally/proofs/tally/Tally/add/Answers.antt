@@ -1,4 +1,4 @@
-use Rattle.std.proofs.Common.{refl, ap, sym, subst, ◌+◌, ◌%◌, ◌≡◌, ◌∙◌, Some, option_map}
+use Rattle.std.proofs.Common.{ap, sym, subst, ◌+◌, ◌%◌, option_map}
 use Rattle.vx_tally.specs.Kept.{Kept}
 use Rattle.vx_tally.specs.Tallies.{StandsFor}
 use Rattle.vx_tally.proofs.Adds.{adds}
