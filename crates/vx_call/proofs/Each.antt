@@ -1,5 +1,5 @@
 -- What holds of each thing that lasts.
-use Rattle.std.proofs.Common.{◌≡◌, ℕ, zero, suc, ◌<◌, length, get_or, arith, List, [], ◌∷◌, ◌++◌, refl, ap, sym, ◌∙◌, subst, append_assoc}
+use Rattle.std.proofs.Common.{◌≡◌, ℕ, zero, suc, ◌<◌, length, get_or, arith, List, [], ◌∷◌, ◌++◌, refl, sym, subst, append_assoc}
 use Rattle.std.specs.Prelude.{Bool, true, false, not, cond, filter}
 use Rattle.std.proofs.lemmas.List.{append-nil}
 use Rattle.vx_call.specs.declared.history.Traced.{Traced}

@@ -4,3 +4,4 @@ pub mod Apart
 pub mod Waiting
 pub mod Owners
 pub mod Legal
+pub mod Refused

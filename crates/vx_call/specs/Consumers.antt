@@ -13,7 +13,7 @@ abbrev pub consumer_made : List Traced → Call → List Consumer
 consumer_made before (calls.Register context address) = record { id = next_consumer before; context = context; address = address } ∷ []
 consumer_made before _ = []
 
--- Whether an entry ends a consumer. What ends a consumer ends its messages too: `Items` cites this test.
+-- whether an entry ends a consumer: the one test for all ways to end one, and no call does so far
 abbrev pub ends : List Traced → Call → ConsumerId → Bool
 ends before _ consumer = false
 

@@ -1,10 +1,9 @@
 -- Tasks that wait. (Vert.x core manual, "Registering Handlers": a handler is called for each message that arrives.
 -- That a task waits until it is taken, in the order of (entry, place), is this project's own.)
-use Rattle.std.specs.Prelude.{ℕ, Bool, true, false, ◌&&◌, ◌||◌, List, [], ◌∷◌, length}
+use Rattle.std.specs.Prelude.{ℕ, Bool, false, ◌&&◌, List, []}
 use Rattle.std.specs.Option.{option_map, option_to_list}
 use Rattle.vx_data.specs.declared.ids.EntryNo.{EntryNo}
 use Rattle.vx_data.specs.declared.ids.ContextId.{ContextId}
-use Rattle.vx_data.specs.declared.ids.ConsumerId.{ConsumerId}
 use Rattle.vx_data.specs.Tree.{Tree}
 use Rattle.vx_call.specs.declared.call.Call.{Call}
 use Rattle.vx_call.specs.declared.call.Call.TheVariants as calls
@@ -16,7 +15,6 @@ use Rattle.vx_call.specs.declared.history.Consumer.{Consumer}
 use Rattle.vx_call.specs.declared.history.Traced.{Traced}
 use Rattle.vx_call.specs.History.{Kind, lasting}
 use Rattle.vx_call.specs.Names.{next_entry, next_message, same_consumer, same_message}
-use Rattle.vx_call.specs.Consumers.{ends}
 use Rattle.vx_call.specs.Choices.{choice}
 
 -- a task that waits for a context: the entry that made it ready, and its place among what that entry made ready

@@ -10,4 +10,6 @@ pub mod Refusals
 pub mod Rows
 pub mod Machine
 pub mod Plain
+pub mod Unchanged
 pub mod Runs
+pub mod Examples

@@ -1,5 +1,5 @@
 -- Names of things. A thing is named by the index of the entry that made it: this is this project's own rule.
-use Rattle.std.specs.Prelude.{ℕ, ◌==◌, Bool, ◌&&◌, List, length}
+use Rattle.std.specs.Prelude.{◌==◌, Bool, ◌&&◌, List, length}
 use Rattle.vx_data.specs.declared.ids.EntryNo.{EntryNo}
 use Rattle.vx_data.specs.declared.ids.ContextId.{ContextId}
 use Rattle.vx_data.specs.declared.ids.ConsumerId.{ConsumerId}

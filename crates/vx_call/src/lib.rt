@@ -4,6 +4,8 @@
 mod call;
 mod history;
 mod reply;
+#[cfg(test)]
+mod tests;
 
 pub use call::{Call, End};
 pub use history::{Consumer, Entry, Traced};

@@ -1,7 +1,9 @@
 -- A body as its tree: its depth, and the order of its keys.
-use Rattle.std.specs.Prelude.{◌≡◌, ℕ, suc, max, List, [], ◌∷◌, Bool, true, ◌&&◌}
+use Rattle.std.specs.Prelude.{◌≡◌, ℕ, suc, max, List, [], ◌∷◌}
 use Rattle.std.specs.Cmp.Lexicographic.{slice_cmp}
-use Rattle.std.specs.Ordering.{nat_cmp, match_ordering, is_lt}
+use Rattle.std.specs.List.{AllByRecursion}
+use Rattle.std.specs.Ordering.{nat_cmp, match_ordering}
+use Rattle.std.specs.declared.cmp.Ordering.TheVariants.{Less}
 use Rattle.vx_data.specs.Tree.{Tree, null, boolean, int, text, bytes, array, object, Elements, no_elements, element, Members, no_members, member}
 
 abbrev pub elements : List Tree → Elements
@@ -35,22 +37,25 @@ abbrev mutual
 abbrev pub max_depth : ℕ
 max_depth = 101
 
--- the byte order of keys
-abbrev pub is_before : List ℕ → List ℕ → Bool
-is_before k l = is_lt (slice_cmp nat_cmp k l)
+abbrev pub keys : Members → List (List ℕ)
+keys no_members = []
+keys (member k t ms) = k ∷ keys ms
 
--- each key is before the next: distinct keys in byte order
+-- distinct keys in byte order: each is before those after it
 abbrev pub IsInOrder : Members → Type 0
 IsInOrder no_members = Unit {0}
-IsInOrder (member k t no_members) = Unit {0}
-IsInOrder (member k t (member l u ms)) = (is_before k l ≡ true) × IsInOrder (member l u ms)
+IsInOrder (member k t ms) = AllByRecursion (λ l. slice_cmp nat_cmp k l ≡ Less) (keys ms) × IsInOrder ms
 
 -- the members with the value t at the key k, in place of an earlier value there
 abbrev pub put : List ℕ → Tree → Members → Members
 put k t no_members = member k t no_members
 put k t (member l u ms) = match_ordering (slice_cmp nat_cmp k l) (member k t (member l u ms)) (member k t ms) (member l u (put k t ms))
 
--- what the pairs make, put in one after another: of a repeated key the last value stays
-abbrev pub gathered : List (List ℕ × Tree) → Members → Members
-gathered [] found = found
-gathered (p ∷ ps) found = gathered ps (put p.0 p.1 found)
+-- what the pairs make, put in one after another
+abbrev pub put_all : List (List ℕ × Tree) → Members → Members
+put_all [] found = found
+put_all (p ∷ ps) found = put_all ps (put p.0 p.1 found)
+
+-- the members that the pairs make: of a repeated key the last value stays
+abbrev pub gathered : List (List ℕ × Tree) → Members
+gathered ps = put_all ps no_members

@@ -1,7 +1,9 @@
 pub mod Bodies
 pub mod BodyText
+pub mod HeaderLists
 pub mod NodeFalls
 pub mod Nodes
+pub mod Places
 pub mod Stored
 pub mod Tree
 pub mod Views

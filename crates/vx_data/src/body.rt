@@ -1,9 +1,11 @@
-ghost use Rattle.std.specs.Prelude.{◌≡◌, ◌<◌, ◌≤◌, ◌↔◌, IfOk, IfErr, IsErr};
+ghost use Rattle.std.specs.Prelude.{◌≡◌, ◌<◌, ◌≤◌, ◌↔◌, IfOk, IfErr, IsOk, IsErr};
 ghost use Rattle.vx_data.specs.Tree as tree;
-ghost use Rattle.vx_data.specs.Bodies.{elements, members, tree_depth, deepest_element, deepest_member, max_depth};
+ghost use Rattle.vx_data.specs.Bodies.{elements, members, tree_depth, deepest_element, deepest_member, max_depth, gathered};
+ghost use Rattle.vx_data.specs.declared.body.ObjectFault.TheVariants.{TooDeep};
 ghost use Rattle.vx_data.specs.Views.{shown};
 
 use crate::memory::NoMemory;
+use crate::object::{deepest_at, moved, room_for_kept};
 use crate::text::Text;
 use std::alloc::Global;
 use std::marker::Model;
@@ -47,6 +49,21 @@ pub enum BodyView<'a> {
 #[derive(Debug, Drop)]
 pub struct ArrayRefused {
     pub items: Vec<Body>,
+}
+
+/// Why an object was not made.
+#[derive(Clone, Copy, Debug, PartialEq, Eq)]
+pub enum ObjectFault {
+    /// The object would be deeper than 101.
+    TooDeep,
+    NoMemory,
+}
+
+/// The pairs that made no object, as they were, and why.
+#[derive(Debug, Drop)]
+pub struct ObjectRefused {
+    pub pairs: Vec<(Text, Body)>,
+    pub why: ObjectFault,
 }
 
 impl Model for Body {
@@ -132,6 +149,32 @@ impl Body {
         }
         Ok(Body {
             node: Node::Array(items),
+            depth: deepest + 1,
+        })
+    }
+
+    /// The object of these pairs, of a repeated key the last. `TooDeep` comes exactly where its
+    /// depth would pass 101. A refusal gives the pairs back as they were.
+    pub fn object(alloc: Global, pairs: Vec<(Text, Body)>) -> Result<Body, ObjectRefused>
+        ensures made { IfOk result (λ body. body ≡ tree.object (gathered pairs.items)) }
+        ensures deep { IfErr result (λ refused. refused.why ≡ TooDeep → max_depth < tree_depth (tree.object (gathered pairs.items))) }
+        ensures shallow { IsOk result → tree_depth (tree.object (gathered pairs.items)) ≤ max_depth }
+        ensures back { IfErr result (λ refused. refused.pairs ≡ pairs) }
+    {
+        let (kept, places) = match room_for_kept(alloc, &pairs) {
+            Ok(found) => found,
+            Err(NoMemory) => {
+                let why = ObjectFault::NoMemory;
+                return Err(ObjectRefused { pairs, why });
+            }
+        };
+        let deepest = deepest_at(&pairs, &places);
+        if deepest >= MAX_DEPTH {
+            let why = ObjectFault::TooDeep;
+            return Err(ObjectRefused { pairs, why });
+        }
+        Ok(Body {
+            node: Node::Object(moved(alloc, pairs, &places, kept)),
             depth: deepest + 1,
         })
     }

@@ -22,3 +22,35 @@ pub struct ConsumerId(pub EntryNo);
 /// A message, by the entry that sent it.
 #[derive(Clone, Copy, Debug, PartialEq, Eq)]
 pub struct MessageId(pub EntryNo);
+
+/// A deployment, by the entry that deployed it.
+#[derive(Clone, Copy, Debug, PartialEq, Eq)]
+pub struct DeploymentId(pub EntryNo);
+
+/// A timer, by the entry that set it.
+#[derive(Clone, Copy, Debug, PartialEq, Eq)]
+pub struct TimerId(pub EntryNo);
+
+/// Work handed to a context or to the worker pool, by the entry that handed it over.
+#[derive(Clone, Copy, Debug, PartialEq, Eq)]
+pub struct QueuedId(pub EntryNo);
+
+/// A promise, by the entry that made it.
+#[derive(Clone, Copy, Debug, PartialEq, Eq)]
+pub struct PromiseId(pub EntryNo);
+
+/// An interceptor's rule, by the entry that added it.
+#[derive(Clone, Copy, Debug, PartialEq, Eq)]
+pub struct RuleId(pub EntryNo);
+
+/// A codec, by the entry that added it.
+#[derive(Clone, Copy, Debug, PartialEq, Eq)]
+pub struct CodecId(pub EntryNo);
+
+/// A server, by the entry at which it began to listen.
+#[derive(Clone, Copy, Debug, PartialEq, Eq)]
+pub struct ServerId(pub EntryNo);
+
+/// A bridge connection, by the entry that opened it.
+#[derive(Clone, Copy, Debug, PartialEq, Eq)]
+pub struct ConnId(pub EntryNo);

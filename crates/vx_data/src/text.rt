@@ -1,4 +1,4 @@
-ghost use Rattle.std.specs.Prelude.{◌≡◌, ◌↔◌, IfOk, Err, length};
+ghost use Rattle.std.specs.Prelude.{◌≡◌, ◌↔◌, [], IfOk, Err, length};
 ghost use Rattle.std.specs.Str.{IsUtf8, bytes_eq};
 ghost use Rattle.vx_data.specs.declared.text.TextFault.TheVariants.{BadText};
 
@@ -53,6 +53,15 @@ impl Text {
                 bytes: bytes.to_vec(alloc)?,
             }),
             Err(_) => Err(TextFault::BadText),
+        }
+    }
+
+    /// The text of no bytes.
+    pub(crate) fn empty(alloc: Global) -> Text
+        ensures { result ≡ [] }
+    {
+        Text {
+            bytes: Vec::new(alloc),
         }
     }
 

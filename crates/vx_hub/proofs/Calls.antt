@@ -15,6 +15,7 @@ use Rattle.vx_call.specs.History.{plain_entry}
 use Rattle.vx_call.specs.Refusals.{unless_refused, refused_if, is_spent}
 use Rattle.vx_call.specs.Machine.{passes, row, answer, extended}
 use Rattle.vx_call.proofs.Legal.{legal_more}
+use Rattle.vx_call.proofs.Refused.{refused_unchanged}
 use Rattle.vx_hub.specs.Stores.{ContextStore, BusStore, HubStore}
 use Rattle.vx_hub.specs.Stands.{StoresStand, HubStands, StandsFor, Answered, Meets, Keeps, Follows, ContextsFollow, BusFollows, ContextsStand, BusStands, IsNext, IsOfHistory, AreOfOneHistory}
 use Rattle.vx_hub.proofs.Frames.{leaves_contexts, leaves_bus, contexts_frame, bus_frame}
@@ -63,6 +64,7 @@ meets old new pass call reply small more rows = λ history stands known.
             parts = parts_more old new history pass call reply stands.parts more follows;
             legal = legal_more history (plain_entry pass call reply) stands.legal (record { known = known; answered = answers; room = short; stateless = refl });
           }));
+      refused = refused_unchanged history pass call reply;
     }
 
 -- the hub is still that of some history

@@ -1,5 +1,5 @@
 -- The histories that a hub stands for.
-use Rattle.std.specs.Prelude.{◌≡◌, ℕ, ◌<◌, List, [], ◌∷◌, ◌++◌, length, map, Some, Result, Ok, Err}
+use Rattle.std.specs.Prelude.{◌≡◌, ℕ, ◌<◌, false, List, [], ◌∷◌, ◌++◌, length, map, Some, Result, Ok, Err}
 use Rattle.std.specs.List.{filter_map}
 use Rattle.vx_data.specs.declared.ids.EntryNo.{EntryNo}
 use Rattle.vx_data.specs.declared.ids.PassNo.{PassNo}
@@ -11,13 +11,14 @@ use Rattle.vx_call.specs.declared.reply.Reply.{Reply}
 use Rattle.vx_call.specs.declared.reply.Reply.TheVariants as replies
 use Rattle.vx_call.specs.declared.history.Consumer.{Consumer}
 use Rattle.vx_call.specs.declared.history.Traced.{Traced}
-use Rattle.vx_call.specs.History.{plain_entry}
+use Rattle.vx_call.specs.History.{is_accepted, plain_entry}
 use Rattle.vx_call.specs.Contexts.{contexts}
 use Rattle.vx_call.specs.Consumers.{consumers}
 use Rattle.vx_call.specs.Choices.{choices, choice}
 use Rattle.vx_call.specs.Items.{waiting}
 use Rattle.vx_call.specs.Held.{held}
 use Rattle.vx_call.specs.Machine.{passes, row, answer, extended, IsLegal}
+use Rattle.vx_call.specs.Unchanged.{IsUnchanged}
 use Rattle.vx_hub.specs.Stores.{ContextStore, BusStore, HubStore, item_of, parcel_of, choices_at}
 
 -- ## One record for each store, with an equation for each part
@@ -49,10 +50,12 @@ pub record StandsFor (hub : HubStore) (history : List Traced) : Type 0 where
 
 -- ## What a call promises
 
--- The reply is the machine's, and the hub stands for the history that the call leaves.
+-- The reply is the machine's, and the hub stands for the history that the call leaves: one more entry, but none where
+-- the history is spent. A refused call changes nothing else.
 pub record Answered (new : HubStore) (history : List Traced) (pass : PassNo) (call : Call) (reply : Reply) : Type 0 where
   pub answered : reply ≡ answer history pass call
   pub stands : StandsFor new (extended history pass call reply)
+  pub refused : is_accepted reply ≡ false → IsUnchanged history (extended history pass call reply)
 
 -- whatever history the hub stood for, a call of a pass that is there is answered as the machine answers it
 abbrev pub Meets : HubStore → HubStore → PassNo → Call → Reply → Type 0

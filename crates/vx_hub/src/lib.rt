@@ -6,6 +6,8 @@ mod contexts;
 mod hub;
 mod refusals;
 mod rows;
+#[cfg(test)]
+mod tests;
 mod unmade;
 
 pub use hub::Hub;
