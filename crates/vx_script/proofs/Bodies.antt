@@ -1,6 +1,6 @@
 -- Bodies: what is read is spelled so, and what is spelled so is read.
-use Rattle.std.proofs.Common.{◌≡◌, ℕ, ◌<◌, ◌+◌, suc, List, [], ◌∷◌, ◌++◌, length, take, drop, Bool, true, false, not, cond, ◌&&◌, ◌==◌, nat_le, arith, refl, sym, ◌∙◌, ap, tests, ◌⊎◌, inl, inr, Ok, Err, subst, append_assoc}
-use Rattle.std.specs.Prelude.{pos, slice_index}
+use Rattle.std.proofs.Common.{◌≡◌, ℕ, ◌<◌, ◌+◌, suc, List, [], ◌∷◌, ◌++◌, length, take, drop, Bool, true, false, not, cond, ◌&&◌, ◌==◌, nat_le, arith, refl, sym, ◌∙◌, ap, tests, inl, inr, Ok, subst, append_assoc}
+use Rattle.std.specs.Prelude.{pos}
 use Rattle.std.specs.List.{list_all}
 use Rattle.std.specs.Char.{is_ascii_digit}
 use Rattle.std.specs.Str.Parse.{digits_value}
@@ -8,8 +8,7 @@ use Rattle.std.proofs.lemmas.Bool.{and_parts}
 use Rattle.std.proofs.lemmas.List.{take-append-drop}
 use Rattle.vx_data.specs.Tree as tree
 use Rattle.vx_data.specs.Tree.{Tree}
-use Rattle.vx_script.specs.declared.fault.LineWhy.TheVariants.{Unbuilt}
-use Rattle.vx_script.specs.Grammar.{is_number, is_plain, is_quotable, is_quoted, Spells, ABody}
+use Rattle.vx_script.specs.Grammar.{is_number, is_unpadded, is_quotable, is_quoted, Spells, ABody}
 use Rattle.vx_script.specs.Reading.{quote_at, closed_text, quoted_at, number_at, content_at, first_word, behind_word, word_len}
 use Rattle.vx_script.proofs.Words.{NoSpace, IsTail, Begins, guard_ok, chosen, is_same, begins_word, first_again, behind_again}
 
@@ -59,7 +58,7 @@ number_take : (bs : List ℕ) (x : Tree × List ℕ) → number_at bs ≡ Ok x �
 unfolding number_at
 number_take bs x h =
     let text = first_word bs in
-    let g = guard_ok (is_number text && is_plain text) (Ok (tree.int (pos (digits_value 10 text)), behind_word bs)) x h in
+    let g = guard_ok (is_number text && is_unpadded text) (Ok (tree.int (pos (digits_value 10 text)), behind_word bs)) x h in
     let e : (tree.int (pos (digits_value 10 text)), behind_word bs) ≡ x = cc in
     let e0 : tree.int (pos (digits_value 10 text)) ≡ x.0 = ap (λ (v : Tree × List ℕ). v.0) e in
     let e1 : behind_word bs ≡ x.1 = ap (λ (v : Tree × List ℕ). v.1) e in
@@ -97,12 +96,12 @@ text_again inner text rest e h =
 digit_no_quote : (b : ℕ) → is_ascii_digit b ≡ true → b == 34 ≡ false
 digit_no_quote b h = grind (arith, tests)
 
-int_again : (text rest : List ℕ) → IsTail rest → is_number text && is_plain text ≡ true → content_at (text ++ rest) ≡ Ok (tree.int (pos (digits_value 10 text)), rest)
+int_again : (text rest : List ℕ) → IsTail rest → is_number text && is_unpadded text ≡ true → content_at (text ++ rest) ≡ Ok (tree.int (pos (digits_value 10 text)), rest)
 unfolding content_at number_at
 int_again [] rest q h = cc
 int_again (b ∷ bs) rest q h =
     let text = b ∷ bs in
-    let p = number_parts text (and_parts (is_number text) (is_plain text) h).0 in
+    let p = number_parts text (and_parts (is_number text) (is_unpadded text) h).0 in
     let first : is_ascii_digit b ≡ true = (and_parts (is_ascii_digit b) (list_all is_ascii_digit bs) p.2).0 in
     let f : first_word (text ++ rest) ≡ text = first_again text rest p.0 q in
     let r : behind_word (text ++ rest) ≡ rest = behind_again text rest p.0 q in
@@ -114,6 +113,6 @@ begins_quote text rest inner e = subst (λ (v : List ℕ). Begins (v ++ rest)) (
 pub content_again : (body : Tree) (text rest : List ℕ) → IsTail rest → Spells ABody body text → (content_at (text ++ rest) ≡ Ok (body, rest)) × Begins (text ++ rest)
 content_again (tree.text inner) text rest q s = (text_again inner text rest s.0 s.1, begins_quote text rest inner s.0)
 content_again (tree.int n) text rest q s =
-    let p = number_parts text (and_parts (is_number text) (is_plain text) s.0).0 in
+    let p = number_parts text (and_parts (is_number text) (is_unpadded text) s.0).0 in
     (rw s.1 (int_again text rest q s.0), begins_word text rest p.0 p.1)
 content_again _ text rest q s = absurd s

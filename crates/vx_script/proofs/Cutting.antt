@@ -1,5 +1,5 @@
 -- The first line of a script, and the calls of its lines.
-use Rattle.std.proofs.Common.{◌≡◌, ℕ, ◌+◌, ◌-◌, ◌<◌, ◌≤◌, List, [], ◌∷◌, ◌++◌, length, take, drop, Bool, true, false, cond, ◌==◌, rules, arith, refl, sym, ◌∙◌, ap, tests, append_assoc, Option, Some, None, Result, Ok, Err, subst, length-drop}
+use Rattle.std.proofs.Common.{◌≡◌, ℕ, ◌+◌, ◌-◌, ◌<◌, ◌≤◌, List, [], ◌∷◌, ◌++◌, length, take, drop, Bool, true, false, cond, ◌==◌, rules, arith, refl, sym, ◌∙◌, ap, tests, append_assoc, Option, Result, Ok, Err, subst, length-drop}
 use Rattle.std.specs.List.{slice_split, onto_first, position_or_len, All}
 use Rattle.std.specs.Option.{option_to_list}
 use Rattle.std.specs.Str.Lines.{lines, strip_carriage_return}

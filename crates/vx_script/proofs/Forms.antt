@@ -1,16 +1,15 @@
 -- Each form of a line, and whole lines: what is read is spelled so, and what is spelled so is read.
-use Rattle.std.proofs.Common.{◌≡◌, ℕ, ◌+◌, ◌<◌, zero, suc, List, [], ◌∷◌, ◌++◌, length, replicate, Bool, true, false, not, ◌==◌, arith, refl, sym, ◌∙◌, ap, Option, Some, None, Ok, Err, subst, ◌⊎◌, inl, inr, lit<}
+use Rattle.std.proofs.Common.{◌≡◌, ℕ, ◌<◌, zero, suc, List, [], ◌∷◌, ◌++◌, length, replicate, Bool, true, false, not, ◌==◌, refl, sym, ◌∙◌, ap, Option, Some, None, Ok, inl, inr, lit<}
 use Rattle.std.specs.List.{list_all, AllByRecursion}
-use Rattle.std.specs.Str.{IsUtf8, is_utf8, bytes_eq}
+use Rattle.std.specs.Str.{is_utf8, bytes_eq}
 use Rattle.std.proofs.lemmas.Bool.{and_parts}
 use Rattle.std.proofs.lemmas.List.{take-append-drop}
 use Rattle.std.proofs.lemmas.Slice.Eq.{bytes_eq-Decides}
 use Rattle.std.proofs.lemmas.Str.{IsUtf8-from_is_utf8, is_utf8-from_IsUtf8}
 use Rattle.vx_call.specs.declared.call.Call.{Call}
-use Rattle.vx_script.specs.declared.fault.LineWhy.TheVariants.{Unbuilt}
-use Rattle.vx_script.specs.Grammar.{Values, Form, forms, context_form, register_form, send_form, take_form, finish_form, IsOfForm, IsOfOne, is_silent, IsLine}
+use Rattle.vx_script.specs.Grammar.{Form, forms, IsOfForm, IsOfOne, is_silent, IsLine}
 use Rattle.vx_script.specs.Reading.{word_len, spaces_len, first_word, behind_word, without_spaces, values_at, form_at, call_by, call_at, command_at, line_at}
-use Rattle.vx_script.proofs.Words.{NoSpace, IsTail, Begins, bind_ok, guard_ok, chosen, begins_word, spaces_front, without_spaces_again, first_again, behind_again}
+use Rattle.vx_script.proofs.Words.{NoSpace, bind_ok, guard_ok, chosen, begins_word, spaces_front, without_spaces_again, first_again, behind_again}
 use Rattle.vx_script.proofs.Values.{AreProper, values_take, follows_tail, values_again}
 
 -- a word, by a test that computes

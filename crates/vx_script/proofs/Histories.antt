@@ -1,20 +1,27 @@
 -- The text of a history, and of one that goes on.
-use Rattle.std.proofs.Common.{◌≡◌, ℕ, ◌+◌, ◌^◌, ◌<◌, suc, List, [], ◌∷◌, ◌++◌, length, length-append, refl, sym, ◌∙◌, ap, arith, tests, rules, append_assoc, Option, subst, Bool, true, false, cond}
+use Rattle.std.proofs.Common.{◌≡◌, ℕ, ◌+◌, ◌^◌, ◌<◌, suc, List, [], ◌∷◌, ◌++◌, length, length-append, refl, sym, ◌∙◌, ap, arith, tests, append_assoc, Option, subst, Bool, true, false, cond}
 use Rattle.std.specs.Io.KnownBytes.{Appends}
 use Rattle.std.proofs.KnownBytes.{Appends-trans}
 use Rattle.std.proofs.lemmas.List.{append-nil}
 use Rattle.vx_data.specs.declared.ids.PassNo.{PassNo}
-use Rattle.vx_data.specs.declared.ids.EntryNo.{EntryNo}
 use Rattle.vx_call.specs.declared.call.Call.{Call}
 use Rattle.vx_call.specs.declared.reply.Reply.{Reply}
 use Rattle.vx_call.specs.declared.history.Traced.{Traced}
 use Rattle.vx_call.specs.History.{plain_entry}
 use Rattle.vx_call.specs.Refusals.{is_spent}
-use Rattle.vx_call.specs.Machine.{answer, extended}
+use Rattle.vx_call.specs.Machine.{answer}
 use Rattle.vx_call.specs.Runs.{played, history_after}
 use Rattle.vx_io.specs.Writing.{Begins, AppendsFront}
 use Rattle.vx_script.specs.Replies.{reply_line, text_from, text}
-use Rattle.vx_script.specs.Playing.{first_pass, history_of, Goes}
+use Rattle.vx_script.specs.Playing.{first_pass, history_of}
+
+-- A hub stands for a history from which the rest of all calls goes on, and the text of that history was written.
+pub record Goes (Stands : List Traced → Type 0) (held held' : Option (List ℕ)) (at : ℕ) (rest all : List Call) : Type 0 where
+  pub history : List Traced
+  pub stands : Stands history
+  pub goes_on : history_after history first_pass rest ≡ history_of all
+  pub written : Appends held held' (text history)
+  pub count : at ≡ length history
 
 text_from_push : (n : ℕ) (h : List Traced) (e : Traced) → text_from n (h ++ e ∷ []) ≡ text_from n h ++ reply_line (record { 0 = n + length h }) e.entry.reply
 text_from_push n [] e = let k : n + 0 ≡ n = omega arith in rw (k, append-nil) refl

@@ -1,15 +1,15 @@
 -- The history of a script is legal.
-use Rattle.std.proofs.Common.{◌≡◌, ◌==◌, ℕ, ◌+◌, ◌^◌, ◌<◌, ◌≤◌, suc, List, [], ◌∷◌, ◌++◌, length, length-append, refl, sym, ◌∙◌, ap, arith, append_assoc, Bool, true, false, cond, Option, Some, None, Result, Ok, Err, subst, lit<}
+use Rattle.std.proofs.Common.{◌≡◌, ◌==◌, ℕ, ◌+◌, ◌^◌, ◌<◌, ◌≤◌, List, [], ◌∷◌, ◌++◌, length, length-append, refl, sym, ap, arith, Bool, true, false, cond, Option, Some, None, Result, Ok, Err, subst, lit<}
 use Rattle.std.specs.Option.{option_to_list}
-use Rattle.std.specs.List.{slice_split, count_by}
+use Rattle.std.specs.List.{slice_split}
 use Rattle.std.specs.Str.Lines.{lines, lines_of_parts}
 use Rattle.std.proofs.lemmas.List.Sums.{count_by-le-length}
 use Rattle.std.proofs.lemmas.List.Splits.{length-slice_split}
 use Rattle.vx_call.specs.declared.call.Call.{Call}
 use Rattle.vx_call.specs.declared.history.Traced.{Traced}
 use Rattle.vx_call.specs.History.{plain_entry}
-use Rattle.vx_call.specs.Machine.{answer, IsLegal, MayFollow}
-use Rattle.vx_call.specs.Runs.{played, history_after}
+use Rattle.vx_call.specs.Machine.{answer, IsLegal}
+use Rattle.vx_call.specs.Runs.{history_after}
 use Rattle.vx_call.proofs.Legal.{legal_none, legal_more}
 use Rattle.vx_script.specs.declared.fault.LineWhy.{LineWhy}
 use Rattle.vx_script.specs.declared.limit.TheConstants.{LIMIT}

@@ -1,5 +1,5 @@
 -- All lines of a script, in the words of the grammar.
-use Rattle.std.proofs.Common.{◌≡◌, ℕ, ◌+◌, List, [], ◌∷◌, ◌++◌, refl, sym, ◌∙◌, ap, Option, Result, Ok, Err, ◌⊎◌, inl, inr}
+use Rattle.std.proofs.Common.{◌≡◌, ℕ, ◌+◌, List, [], ◌∷◌, ◌++◌, refl, sym, ◌∙◌, ap, Option, Result, Ok, Err, inl, inr}
 use Rattle.std.specs.Option.{option_to_list}
 use Rattle.vx_call.specs.declared.call.Call.{Call}
 use Rattle.vx_script.specs.declared.fault.LineWhy.{LineWhy}

@@ -1,7 +1,7 @@
 -- Bytes that are UTF-8.
-use Rattle.std.proofs.Common.{◌≡◌, ℕ, ◌+◌, ◌≤◌, ◌<◌, List, [], ◌∷◌, Bool, true, false, not, ◌&&◌, ◌==◌, nat_le, arith, tests, refl, sym, Result, Ok, Err, MatchResult, is_ok, length, Bor, zero, suc}
+use Rattle.std.proofs.Common.{◌≡◌, ℕ, ◌<◌, List, [], ◌∷◌, Bool, true, false, not, ◌&&◌, ◌==◌, nat_le, arith, tests, refl, sym, Result, Ok, Err, MatchResult, is_ok, length, Bor, zero, suc}
 use Rattle.std.specs.Prelude.{slice_index}
-use Rattle.std.specs.Str.{IsUtf8, is_utf8, IsAscii, IsValidUpTo, valid_up_to}
+use Rattle.std.specs.Str.{IsUtf8, is_utf8, IsValidUpTo, valid_up_to}
 use Rattle.std.specs.List.{list_all}
 use Rattle.std.specs.declared.str.Utf8Error.{Utf8Error}
 use Rattle.std.proofs.lemmas.Bool.{and_parts}

@@ -1,5 +1,5 @@
 -- The pieces behind a word: what is read is spelled so, and what is spelled so is read.
-use Rattle.std.proofs.Common.{◌≡◌, ℕ, ◌+◌, ◌<◌, suc, List, [], ◌∷◌, ◌++◌, length, replicate, Bool, true, false, not, ◌&&◌, ◌==◌, nat_le, arith, refl, sym, ◌∙◌, ap, tests, Ok, Err, subst}
+use Rattle.std.proofs.Common.{◌≡◌, ℕ, ◌+◌, ◌<◌, suc, List, [], ◌∷◌, ◌++◌, length, replicate, true, false, not, ◌&&◌, ◌==◌, nat_le, arith, refl, sym, ◌∙◌, ap, tests, Ok, subst}
 use Rattle.std.specs.Prelude.{slice_index}
 use Rattle.std.specs.List.{list_all}
 use Rattle.std.specs.Str.{bytes_eq}
@@ -8,7 +8,6 @@ use Rattle.std.proofs.lemmas.Bool.{and_parts}
 use Rattle.std.proofs.lemmas.Slice.Eq.{bytes_eq-Decides}
 use Rattle.vx_data.specs.declared.ids.ContextId.{ContextId}
 use Rattle.vx_data.specs.Tree.{Tree}
-use Rattle.vx_script.specs.declared.fault.LineWhy.TheVariants.{Unbuilt}
 use Rattle.vx_script.specs.Grammar.{is_number, is_graphic, is_address, is_blank, Kind, AWord, AContext, AnAddress, ABody, Value, Values, Spells, Follow}
 use Rattle.vx_script.specs.Reading.{behind_spaces, word_at, keyword_at, context_at, address_at, body_at, content_at, end_at, value_at, values_at}
 use Rattle.vx_script.proofs.Words.{NoSpace, IsTail, bind_ok, guard_ok, spaces_take, spaces_again, word_take, word_again, blank_tail}

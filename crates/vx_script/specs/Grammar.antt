@@ -1,5 +1,5 @@
 -- The lines of a script: which call a line spells, apart from how it is read. The language is this project's own.
-use Rattle.std.specs.Prelude.{◌≡◌, ℕ, ◌+◌, pos, negsuc, List, [], ◌∷◌, ◌++◌, length, Bool, true, ◌&&◌, ◌||◌, not, nat_le, ◌==◌, IsTrue, codes, replicate, slice_index, Option, Some, None, ◌⊎◌}
+use Rattle.std.specs.Prelude.{◌≡◌, ℕ, ◌+◌, pos, List, [], ◌∷◌, ◌++◌, length, Bool, true, ◌&&◌, ◌||◌, not, nat_le, ◌==◌, IsTrue, codes, replicate, slice_index, Option, Some, None, ◌⊎◌}
 use Rattle.std.specs.List.{list_all}
 use Rattle.std.specs.Char.{is_ascii_digit}
 use Rattle.std.specs.Str.{IsUtf8}
@@ -17,8 +17,8 @@ abbrev pub is_number : List ℕ → Bool
 is_number text = nat_le 1 (length text) && nat_le (length text) 18 && list_all is_ascii_digit text
 
 -- no zero stands before another digit
-abbrev pub is_plain : List ℕ → Bool
-is_plain text = not (slice_index text 0 == 48) || length text == 1
+abbrev pub is_unpadded : List ℕ → Bool
+is_unpadded text = not (slice_index text 0 == 48) || length text == 1
 
 -- from ! to ~
 abbrev pub is_graphic : ℕ → Bool
@@ -65,7 +65,7 @@ Spells (AWord word) _ text = text ≡ word
 Spells AContext context text = IsTrue (is_number text) × (context ≡ record { entry = record { 0 = digits_value 10 text }; instance = 0 })
 Spells AnAddress address text = (text ≡ address) × IsTrue (is_address text)
 Spells ABody (tree.text inner) text = (text ≡ 34 ∷ inner ++ 34 ∷ []) × IsTrue (is_quoted inner)
-Spells ABody (tree.int number) text = IsTrue (is_number text && is_plain text) × (number ≡ pos (digits_value 10 text))
+Spells ABody (tree.int number) text = IsTrue (is_number text && is_unpadded text) × (number ≡ pos (digits_value 10 text))
 Spells ABody _ text = ⊥
 
 abbrev pub Values : List Kind → Type 0

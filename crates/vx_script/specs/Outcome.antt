@@ -1,5 +1,5 @@
 -- What a script did to its source and its sink, by its status.
-use Rattle.std.specs.Prelude.{◌≡◌, ℕ, ◌<◌, ◌≤◌, List, length, Option, Ok, Err, ◌⊎◌}
+use Rattle.std.specs.Prelude.{◌≡◌, ℕ, List, Option, Ok, Err, ◌⊎◌}
 use Rattle.std.specs.Io.KnownBytes.{Consumes, Keeps, Appends}
 use Rattle.vx_io.specs.Reading.{ReadsAll, ReadsSome, ReadsTooMany}
 use Rattle.vx_io.specs.Writing.{AppendsFront}

@@ -1,5 +1,5 @@
 -- Reading a line from left to right. A tail is what is left behind a word: it is empty or begins with a space.
-use Rattle.std.specs.Prelude.{◌≡◌, ℕ, pos, List, [], ◌∷◌, length, take, drop, Bool, ◌&&◌, not, Option, Some, None, Result, Ok, Err, ◌==◌, if◌then◌else◌}
+use Rattle.std.specs.Prelude.{◌≡◌, ℕ, pos, List, [], ◌∷◌, take, drop, ◌&&◌, not, Option, Some, None, Result, Ok, Err, ◌==◌, if◌then◌else◌}
 use Rattle.std.specs.List.{prefix_len}
 use Rattle.std.specs.Str.{bytes_eq, is_utf8}
 use Rattle.std.specs.Str.Parse.{digits_value}
@@ -11,7 +11,7 @@ use Rattle.vx_script.specs.declared.fault.LineWhy.{LineWhy}
 use Rattle.vx_script.specs.declared.fault.LineWhy.TheVariants.{Unbuilt}
 use Rattle.vx_script.specs.declared.fault.LineFault.{LineFault}
 use Rattle.vx_script.specs.declared.fault.LineFault.TheVariants as faults
-use Rattle.vx_script.specs.Grammar.{is_number, is_plain, is_address, is_quoted, is_blank, is_silent, Kind, AWord, AContext, AnAddress, ABody, Value, Values, Form, forms}
+use Rattle.vx_script.specs.Grammar.{is_number, is_unpadded, is_address, is_quoted, is_blank, is_silent, Kind, AWord, AContext, AnAddress, ABody, Value, Values, Form, forms}
 
 infixl 10 ◌>>=◌
 abbrev pub ◌>>=◌ : {A B : Type 0} → Result A LineWhy → (A → Result B LineWhy) → Result B LineWhy
@@ -83,7 +83,7 @@ quoted_at bytes = closed_text (take (quote_at bytes) bytes) (drop (quote_at byte
 
 unfoldable pub number_at : List ℕ → Result (Tree × List ℕ) LineWhy
 number_at bytes =
-    if is_number (first_word bytes) && is_plain (first_word bytes) then Ok (tree.int (pos (digits_value 10 (first_word bytes))), behind_word bytes) else Err Unbuilt
+    if is_number (first_word bytes) && is_unpadded (first_word bytes) then Ok (tree.int (pos (digits_value 10 (first_word bytes))), behind_word bytes) else Err Unbuilt
 
 -- a body, at its first byte
 unfoldable pub content_at : List ℕ → Result (Tree × List ℕ) LineWhy

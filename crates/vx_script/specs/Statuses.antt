@@ -1,5 +1,5 @@
 -- The statuses of the process, and the lines that say what went wrong.
-use Rattle.std.specs.Prelude.{ℕ, List, [], ◌∷◌, ◌++◌, codes}
+use Rattle.std.specs.Prelude.{ℕ, List, [], ◌++◌, codes}
 use Rattle.std.specs.Fmt.{decimal}
 use Rattle.vx_script.specs.declared.fault.LineWhy.{LineWhy}
 use Rattle.vx_script.specs.declared.fault.LineWhy.TheVariants.{Unbuilt}

@@ -10,7 +10,7 @@ mod lines;
 mod piece;
 mod playing;
 mod reply;
-mod script;
+mod running;
 mod status;
 mod text;
 
@@ -18,7 +18,7 @@ pub use fault::LineWhy;
 pub use laws::{lines_are_read_as_spelled, scripts_are_read_as_spelled};
 pub use limit::LIMIT;
 pub use reply::write_reply;
-pub use script::script;
+pub use running::script;
 pub use status::Status;
 
 #[cfg(test)]

@@ -216,9 +216,9 @@ fn quoted(alloc: Global, bytes: &[u8]) -> Result<(Body, &[u8]), LineFault>
     }
 }
 
-fn is_plain(text: &[u8]) -> bool
+fn is_unpadded(text: &[u8]) -> bool
     requires { 0 < length text.now }
-    ensures { result ≡ grammar.is_plain text.now }
+    ensures { result ≡ grammar.is_unpadded text.now }
 {
     text[0] != b'0' || text.len() == 1
 }
@@ -229,7 +229,7 @@ fn number(bytes: &[u8]) -> Result<(Body, &[u8]), LineFault>
     ensures { Gives (λ x. (x.0, x.1.now)) result (number_at bytes.now) }
 {
     let (text, rest) = split_word(bytes);
-    if is_number(text) && is_plain(text) {
+    if is_number(text) && is_unpadded(text) {
         Ok((Body::int(value_of(text) as i64), rest))
     } else {
         Err(UNBUILT)

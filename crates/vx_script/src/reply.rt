@@ -1,5 +1,5 @@
 //! The text of replies.
-ghost use Rattle.std.specs.Prelude.{◌≡◌, ◌++◌, OnOk, OnErr};
+ghost use Rattle.std.specs.Prelude.{◌≡◌, ◌++◌, OnOk, OnErr, codes};
 ghost use Rattle.vx_script.specs.Replies as texts;
 
 use crate::body::write_body;
@@ -9,7 +9,7 @@ use vx_call::{Refusal, Reply, Task, To};
 use vx_data::{ContextId, EntryNo, NoMemory};
 
 fn write_context(alloc: Global, context: ContextId, into: &mut Vec<u8>) -> Result<(), NoMemory>
-    ensures { OnOk result (into.new.items ≡ into.old.items ++ texts.reply_text (record { 0 = 0 }) (Reply.Context context)) }
+    ensures { OnOk result (into.new.items ≡ into.old.items ++ (codes "context " ++ texts.context_text context)) }
 {
     let ContextId { entry, instance } = context;
     let text = if instance == 0 {

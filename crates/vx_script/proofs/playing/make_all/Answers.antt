@@ -3,8 +3,7 @@ use Rattle.std.proofs.lemmas.Result.{err_from_is_err_and}
 use Rattle.std.specs.Vec.Iter.{into_iter_items}
 use Rattle.vx_call.specs.declared.call.Call.{Call}
 use Rattle.vx_hub.specs.Stands.{StandsFor}
-use Rattle.vx_script.specs.Playing.{Goes}
-use Rattle.vx_script.proofs.Histories.{cut_off, one_more}
+use Rattle.vx_script.proofs.Histories.{Goes, cut_off, one_more}
 use Rattle.vx_script.proofs.playing.make_all.Goals as goal
 
 pub returns-in_err-make_one-clause-err : goal.returns-in_err-make_one-clause-err

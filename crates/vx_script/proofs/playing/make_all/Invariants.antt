@@ -1,8 +1,8 @@
-use Rattle.std.proofs.Common.{◌≤◌, ◌+◌, length}
+use Rattle.std.proofs.Common.{◌≤◌, ◌+◌}
 use Rattle.std.specs.Vec.Iter.{into_iter_items, into_iter_len}
 use Rattle.vx_hub.specs.Stands.{StandsFor}
-use Rattle.vx_script.specs.Playing.{Goes}
 use Rattle.vx_script.specs.declared.limit.TheConstants.{LIMIT}
+use Rattle.vx_script.proofs.Histories.{Goes}
 use Rattle.vx_script.proofs.playing.make_all.Given as goal
 
 abbrev pub invariant-loop-call : goal.invariant-loop-call

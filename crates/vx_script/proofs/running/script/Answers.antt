@@ -1,6 +1,6 @@
 use Rattle.vx_script.proofs.LegalRuns.{legal_run}
 use Rattle.vx_script.proofs.Settled.{settled}
-use Rattle.vx_script.proofs.script.script.Goals as goal
+use Rattle.vx_script.proofs.running.script.Goals as goal
 
 pub returns-clause-legal : goal.returns-clause-legal
 returns-clause-legal g c = legal_run

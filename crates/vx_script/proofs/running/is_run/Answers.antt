@@ -1,6 +1,6 @@
 use Rattle.std.proofs.Common.{arith, rules}
 use Rattle.vx_script.proofs.Command.{one_word}
-use Rattle.vx_script.proofs.script.is_run.Goals as goal
+use Rattle.vx_script.proofs.running.is_run.Goals as goal
 
 pub returns-in-len1 : goal.returns-in-len1
 returns-in-len1 c = one_word c.args.words.now c.word-item.result _ _ (omega arith) c.word-item.is (search rules)
