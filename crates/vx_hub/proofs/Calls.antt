@@ -1,23 +1,20 @@
 -- From the row of a call to the hub's promise.
-use Rattle.std.proofs.Common.{◌≡◌, ℕ, ◌+◌, ◌<◌, ◌^◌, List, [], ◌∷◌, ◌++◌, length, refl, ap, sym, ◌∙◌, subst, arith, rules, tests}
-use Rattle.std.specs.Prelude.{Bool, true, false, cond, nat_le}
+use Rattle.std.proofs.Common.{◌≡◌, ℕ, ◌+◌, ◌<◌, ◌^◌, List, [], ◌∷◌, ◌++◌, length, refl, ap, sym, ◌∙◌, subst, rules, tests}
+use Rattle.std.specs.Prelude.{true, false, cond, nat_le}
 use Rattle.std.proofs.lemmas.List.{length_push}
 use Rattle.std.proofs.Math.Logic.{∥∥₁_map}
-use Rattle.vx_data.specs.declared.ids.EntryNo.{EntryNo}
 use Rattle.vx_data.specs.declared.ids.PassNo.{PassNo}
 use Rattle.vx_call.specs.declared.call.Call.{Call}
-use Rattle.vx_call.specs.declared.reply.Refusal.{Refusal}
 use Rattle.vx_call.specs.declared.reply.Refusal.TheVariants as refusals
 use Rattle.vx_call.specs.declared.reply.Reply.{Reply}
-use Rattle.vx_call.specs.declared.reply.Reply.TheVariants as replies
 use Rattle.vx_call.specs.declared.history.Traced.{Traced}
 use Rattle.vx_call.specs.History.{plain_entry}
 use Rattle.vx_call.specs.Refusals.{unless_refused, refused_if, is_spent}
-use Rattle.vx_call.specs.Machine.{passes, row, answer, extended}
+use Rattle.vx_call.specs.Machine.{row, answer}
 use Rattle.vx_call.proofs.Legal.{legal_more}
 use Rattle.vx_call.proofs.Refused.{refused_unchanged}
 use Rattle.vx_hub.specs.Stores.{ContextStore, BusStore, HubStore}
-use Rattle.vx_hub.specs.Stands.{StoresStand, HubStands, StandsFor, Answered, Meets, Keeps, Follows, ContextsFollow, BusFollows, ContextsStand, BusStands, IsNext, IsOfHistory, AreOfOneHistory}
+use Rattle.vx_hub.specs.Stands.{StoresStand, HubStands, StandsFor, Meets, Follows, ContextsFollow, BusFollows, ContextsStand, BusStands, IsOfHistory, AreOfOneHistory}
 use Rattle.vx_hub.proofs.Frames.{leaves_contexts, leaves_bus, contexts_frame, bus_frame}
 
 -- ## Rows that move one store

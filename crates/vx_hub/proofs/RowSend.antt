@@ -1,6 +1,6 @@
 -- Send.
 use Rattle.std.proofs.Common.{◌≡◌, ℕ, ◌+◌, ◌-◌, ◌%◌, ◌<◌, ◌≤◌, ◌^◌, min, List, [], ◌∷◌, ◌++◌, length, refl, ap, sym, ◌∙◌, arith}
-use Rattle.std.specs.Prelude.{Bool, true, false, cond, filter, map, slice_get, Option, None, Some}
+use Rattle.std.specs.Prelude.{Bool, true, false, cond, filter, map, slice_get, None}
 use Rattle.std.specs.List.{count_by, filter_map}
 use Rattle.std.specs.Option.{option_map, option_to_list}
 use Rattle.std.specs.Str.{bytes_eq}
@@ -13,20 +13,18 @@ use Rattle.vx_data.specs.declared.ids.PassNo.{PassNo}
 use Rattle.vx_data.specs.declared.ids.ContextId.{ContextId}
 use Rattle.vx_data.specs.declared.ids.ConsumerId.{ConsumerId}
 use Rattle.vx_data.specs.Tree.{Tree}
-use Rattle.vx_message.specs.declared.Message.{Message}
 use Rattle.vx_message.specs.declared.Item.{Item}
 use Rattle.vx_message.specs.declared.ItemKind.TheVariants as kinds
 use Rattle.vx_call.specs.declared.call.Call.{Call}
 use Rattle.vx_call.specs.declared.call.Call.TheVariants as calls
 use Rattle.vx_call.specs.declared.reply.To.TheVariants as reached
 use Rattle.vx_call.specs.declared.reply.Reply.TheVariants as replies
-use Rattle.vx_call.specs.declared.history.Consumer.{Consumer}
 use Rattle.vx_call.specs.declared.history.Traced.{Traced}
 use Rattle.vx_call.specs.History.{lasting, made_by, is_accepted, plain_entry}
 use Rattle.vx_call.specs.Contexts.{context_kind}
 use Rattle.vx_call.specs.Consumers.{consumer_kind, handlers, is_at}
 use Rattle.vx_call.specs.Choices.{choice_kind, choice_made, choices, choice, is_empty}
-use Rattle.vx_call.specs.Items.{Waiting, item_kind, waiting, delivery}
+use Rattle.vx_call.specs.Items.{item_kind, waiting, delivery}
 use Rattle.vx_call.specs.Held.{held_kind}
 use Rattle.vx_call.specs.Refusals.{unless_refused, bad_address}
 use Rattle.vx_call.specs.Rows.{reached_by}

@@ -1,6 +1,6 @@
 -- Take.
 use Rattle.std.proofs.Common.{◌≡◌, ℕ, ◌<◌, List, [], ◌∷◌, ◌++◌, length, get_or, refl, ap, sym, ◌∙◌, subst, arith}
-use Rattle.std.specs.Prelude.{Bool, true, false, not, ◌&&◌, filter, remove, map, find, position, is_some, Option, None, Some}
+use Rattle.std.specs.Prelude.{true, not, ◌&&◌, filter, remove, map, find, position, is_some, Option, None, Some}
 use Rattle.std.specs.List.{count_by, filter_map}
 use Rattle.std.specs.Str.{bytes_eq}
 use Rattle.std.specs.Option.{option_map}
@@ -25,7 +25,7 @@ use Rattle.vx_call.specs.declared.reply.Task.{Task}
 use Rattle.vx_call.specs.declared.reply.Task.TheVariants as tasks
 use Rattle.vx_call.specs.declared.history.Traced.{Traced}
 use Rattle.vx_call.specs.History.{plain_entry}
-use Rattle.vx_call.specs.Names.{next_entry, same_consumer, same_message}
+use Rattle.vx_call.specs.Names.{same_consumer, same_message}
 use Rattle.vx_call.specs.Contexts.{context_kind}
 use Rattle.vx_call.specs.Consumers.{consumer_kind}
 use Rattle.vx_call.specs.Choices.{choice_kind}

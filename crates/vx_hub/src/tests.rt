@@ -1,7 +1,7 @@
 use crate::Hub;
 use std::test::Fail;
 use vx_call::{Call, End, Lane, Refusal, Reply, Task, To};
-use vx_data::{Body, BodyView, ContextId, EntryNo, NoMemory, PassNo, Text};
+use vx_data::{Body, ContextId, EntryNo, NoMemory, PassNo, Text};
 
 const PASS: PassNo = PassNo(0);
 
@@ -10,25 +10,18 @@ const CONTEXT: ContextId = ContextId {
     instance: 0,
 };
 
-fn number(body: &Body) -> Option<i64> {
-    match body.view() {
-        BodyView::Int(number) => Some(number),
-        BodyView::Text(_) => None,
-    }
-}
-
-// What a reply names: the entry of a context or of a consumer, or the number that a message holds.
-fn told(reply: &Reply) -> Option<i64> {
+// The entry that the thing in a reply is named after.
+fn told(reply: &Reply) -> Option<u64> {
     match reply {
-        Reply::Context(context) => i64::try_from(context.entry.0).ok(),
-        Reply::Consumer(consumer) => i64::try_from(consumer.0.0).ok(),
-        Reply::Sent(To::Consumer(consumer)) => i64::try_from(consumer.0.0).ok(),
+        Reply::Context(context) => Some(context.entry.0),
+        Reply::Consumer(consumer) => Some(consumer.0.0),
+        Reply::Sent(To::Consumer(consumer)) => Some(consumer.0.0),
         Reply::Task(
             Task::Deliver {
                 consumer: _,
                 message,
             },
-        ) => number(&message.body),
+        ) => Some(message.id.0.0),
         _ => None,
     }
 }
@@ -51,7 +44,7 @@ fn a_message_goes_to_its_consumer(rt: HostRuntime) -> Result<(), Fail> {
     };
     let sent = hub.step(PASS, send).map_err(|_| NoMemory)?;
     assert_eq!(rt; told(&sent), Some(1));
-    assert_eq!(rt; told(&hub.take(PASS, Lane::Own(CONTEXT))), Some(7));
+    assert_eq!(rt; told(&hub.take(PASS, Lane::Own(CONTEXT))), Some(2));
     assert_eq!(rt; hub.finish(PASS, End::Done), Ok(()));
     assert_eq!(rt; hub.finish(PASS, End::Done), Err(Refusal::NotHolding));
     Ok(())

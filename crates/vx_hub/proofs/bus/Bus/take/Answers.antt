@@ -1,5 +1,5 @@
 use Rattle.std.proofs.Common.{◌≡◌, ap, sym, ◌∙◌, get_or, List, ℕ}
-use Rattle.std.specs.Prelude.{true, false, is_some, remove, position, find, Some}
+use Rattle.std.specs.Prelude.{true, false, is_some, remove, Some}
 use Rattle.std.specs.Option.{option_map}
 use Rattle.vx_call.specs.declared.history.Consumer.{Consumer}
 use Rattle.vx_hub.specs.declared.bus.Parcel.{Parcel}
