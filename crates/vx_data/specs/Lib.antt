@@ -7,3 +7,4 @@ pub mod Places
 pub mod Stored
 pub mod Tree
 pub mod Views
+pub mod WellFormed

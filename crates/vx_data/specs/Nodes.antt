@@ -16,13 +16,3 @@ tree_of (node.Text s) = text s
 tree_of (node.Bytes b) = bytes b.items
 tree_of (node.Array v) = array (elements v.items)
 tree_of (node.Object v) = object (members v.items)
-
--- the keys of an object are distinct and in byte order
-abbrev pub HasOrder : Tree → Type 0
-HasOrder null = Unit {0}
-HasOrder (boolean b) = Unit {0}
-HasOrder (int n) = Unit {0}
-HasOrder (text s) = Unit {0}
-HasOrder (bytes s) = Unit {0}
-HasOrder (array es) = Unit {0}
-HasOrder (object ms) = IsInOrder ms

@@ -1,6 +1,6 @@
 ghost use Rattle.std.specs.Prelude.{◌≡◌, ◌<◌, ◌≤◌, ◌↔◌, IfOk, IfErr, IsOk, IsErr};
 ghost use Rattle.vx_data.specs.Tree as tree;
-ghost use Rattle.vx_data.specs.Bodies.{elements, members, tree_depth, deepest_element, deepest_member, max_depth, gathered};
+ghost use Rattle.vx_data.specs.Bodies.{elements, members, tree_depth, deepest_element, deepest_member, max_depth, gathered, HasOrder};
 ghost use Rattle.vx_data.specs.declared.body.ObjectFault.TheVariants.{TooDeep};
 ghost use Rattle.vx_data.specs.Views.{shown};
 
@@ -75,8 +75,8 @@ impl Model for Body {
 
     ghost coded = { tree_code };
 
-    ghost use Rattle.vx_data.specs.Bodies.{tree_depth, max_depth};
-    ghost use Rattle.vx_data.specs.Nodes.{tree_of, HasOrder};
+    ghost use Rattle.vx_data.specs.Bodies.{tree_depth, max_depth, HasOrder};
+    ghost use Rattle.vx_data.specs.Nodes.{tree_of};
 
     ghost view = { λ body. tree_of body.node };
 
@@ -181,7 +181,8 @@ impl Body {
 
     /// The uppermost part.
     pub fn view(&self) -> BodyView<'_>
-        ensures { shown result ≡ self.now }
+        ensures shown { shown result ≡ self.now }
+        ensures order { HasOrder self.now }
     {
         match &self.node {
             Node::Null => BodyView::Null,

@@ -28,18 +28,15 @@ impl From<AllocError> for TextFault {
 /// A text in UTF-8. Contracts see it as the list of its bytes.
 #[derive(Debug, Drop)]
 pub struct Text {
-    bytes: Vec<u8>,
+    text: String,
 }
 
 impl Model for Text {
-    ghost use Rattle.std.specs.Prelude.{List, ℕ};
-    ghost use Rattle.std.specs.Str.{IsUtf8};
+    ghost use Rattle.std.specs.Prelude.{List, ℕ, string_bytes};
 
     ghost Value = { List ℕ };
 
-    ghost view = { λ text. text.bytes.items };
-
-    ghost invariant = { λ text. ∥ IsUtf8 text.bytes.items ∥₁ };
+    ghost view = { λ text. string_bytes text.text };
 }
 
 impl Text {
@@ -49,8 +46,8 @@ impl Text {
         ensures bad { (result ≡ Err BadText) ↔ (¬ (IsUtf8 bytes.now)) }
     {
         match std::str::from_utf8(bytes) {
-            Ok(_) => Ok(Text {
-                bytes: bytes.to_vec(alloc)?,
+            Ok(text) => Ok(Text {
+                text: String::from_str(alloc, text)?,
             }),
             Err(_) => Err(TextFault::BadText),
         }
@@ -61,7 +58,7 @@ impl Text {
         ensures { result ≡ [] }
     {
         Text {
-            bytes: Vec::new(alloc),
+            text: String::new(alloc),
         }
     }
 
@@ -69,21 +66,29 @@ impl Text {
     pub fn bytes(&self) -> &[u8]
         ensures { result.now ≡ self.now }
     {
-        self.bytes.as_slice()
+        self.text.as_bytes()
+    }
+
+    /// The text as one of std's.
+    pub fn as_str(&self) -> &str
+        ensures same { result.now ≡ self.now }
+        ensures utf8 { IsUtf8 self.now }
+    {
+        self.text.as_str()
     }
 
     /// How many bytes the text has.
     pub fn len(&self) -> usize
         ensures { result ≡ length self.now }
     {
-        self.bytes.len()
+        self.text.len()
     }
 
     /// Whether the two texts have the same bytes.
     pub fn is(&self, other: &Text) -> bool
         ensures { result ≡ bytes_eq self.now other.now }
     {
-        self.bytes.as_slice() == other.bytes.as_slice()
+        self.bytes() == other.bytes()
     }
 
     /// An equal text.
@@ -91,7 +96,7 @@ impl Text {
         ensures { IfOk result (λ text. text ≡ self.now) }
     {
         Ok(Text {
-            bytes: Vec::from_slice(alloc, &self.bytes)?,
+            text: String::from_str(alloc, self.as_str())?,
         })
     }
 }
