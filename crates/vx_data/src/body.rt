@@ -183,6 +183,7 @@ impl Body {
     pub fn view(&self) -> BodyView<'_>
         ensures shown { shown result ≡ self.now }
         ensures order { HasOrder self.now }
+        ensures depth { tree_depth self.now ≤ max_depth }
     {
         match &self.node {
             Node::Null => BodyView::Null,

@@ -7,10 +7,10 @@ use Rattle.vx_script.proofs.Joined.{part_written, all_of, texts_of_elements, tex
 use Rattle.vx_script.proofs.body.+write_body.Goals as goal
 
 pub write_body-write_array-requires : goal.write_body-write_array-requires
-write_body-write_array-requires t c = omega (arith, ap tree_depth c.in-Array.ensures)
+write_body-write_array-requires t c = omega (arith, ap tree_depth c.in-Array.ensures.shown)
 
 pub write_body-write_object-requires : goal.write_body-write_object-requires
-write_body-write_object-requires t c = omega (arith, ap tree_depth c.in-Object.ensures)
+write_body-write_object-requires t c = omega (arith, ap tree_depth c.in-Object.ensures.shown)
 
 pub write_items-returns : goal.write_items-returns
 write_items-returns t c =
