@@ -34,7 +34,7 @@ enum Node {
 }
 
 /// The uppermost part of a body.
-#[derive(Debug)]
+#[derive(Clone, Copy, Debug)]
 pub enum BodyView<'a> {
     Null,
     Bool(bool),

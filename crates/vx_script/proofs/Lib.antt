@@ -6,7 +6,6 @@ pub mod Bodies
 pub mod Values
 pub mod Forms
 pub mod Scripts
-pub mod Joined
 pub mod Histories
 pub mod Command
 pub mod LegalRuns

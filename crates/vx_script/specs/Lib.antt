@@ -2,7 +2,6 @@ pub mod Grammar
 pub mod Reading
 pub mod Lines
 pub mod Replies
-pub mod Parts
 pub mod Statuses
 pub mod Playing
 pub mod Outcome

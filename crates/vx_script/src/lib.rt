@@ -1,7 +1,6 @@
 //! Scripts: lines of text that make calls of a hub, and a line of text for each reply.
 #![tactic(auto)]
 
-mod body;
 mod fault;
 mod laws;
 mod limit;

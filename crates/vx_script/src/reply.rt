@@ -2,11 +2,11 @@
 ghost use Rattle.std.specs.Prelude.{◌≡◌, ◌++◌, OnOk, OnErr, codes};
 ghost use Rattle.vx_script.specs.Replies as texts;
 
-use crate::body::write_body;
 use crate::text::append;
 use std::alloc::Global;
 use vx_call::{Refusal, Reply, Task, To};
 use vx_data::{ContextId, EntryNo, NoMemory};
+use vx_json::write_body;
 
 fn write_context(alloc: Global, context: ContextId, into: &mut Vec<u8>) -> Result<(), NoMemory>
     ensures { OnOk result (into.new.items ≡ into.old.items ++ (codes "context " ++ texts.context_text context)) }
@@ -37,7 +37,7 @@ fn write_task(alloc: Global, task: &Task, into: &mut Vec<u8>) -> Result<(), NoMe
         Task::Deliver { consumer, message } => {
             let front = format!(in alloc; "deliver {} {} ", consumer.0.0, message.id.0.0)?;
             append(front.as_bytes(), into)?;
-            write_body(alloc, &message.body, into)
+            write_body(&message.body, into)
         }
     }
 }

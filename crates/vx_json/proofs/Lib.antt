@@ -1,0 +1,17 @@
+pub mod Beginning
+pub mod CompleteTexts
+pub mod CompleteValues
+pub mod Documents
+pub mod Failing
+pub mod Joining
+pub mod Keeping
+pub mod Numbers
+pub mod Options
+pub mod RoundTrip
+pub mod Separated
+pub mod SoundTexts
+pub mod SoundValues
+pub mod Texts
+pub mod Turns
+pub mod Values
+pub mod Words

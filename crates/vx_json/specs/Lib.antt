@@ -1,0 +1,7 @@
+pub mod Answers
+pub mod Begins
+pub mod Gives
+pub mod Grammar
+pub mod Nexts
+pub mod Reading
+pub mod Texts
