@@ -8,3 +8,4 @@ pub mod Stored
 pub mod Tree
 pub mod Views
 pub mod WellFormed
+pub mod StoredTexts
