@@ -76,8 +76,23 @@ fn make_one<K: Sink>(
         Ok(reply) => reply,
         Err(_) => return Err(SinkFault::NoMemory),
     };
+    write_line(alloc, at, &reply, sink)
+}
+
+/// Writes the line of a reply. The sink has all of it after an `Ok`, and a front of it else.
+fn write_line<K: Sink>(
+    alloc: Global,
+    at: EntryNo,
+    reply: &Reply,
+    sink: &mut K,
+) -> Result<(), SinkFault>
+    ensures ok { OnOk result (Appends (K.held sink.old) (K.held sink.new) (reply_line at reply.now)) }
+    ensures err { OnErr result (AppendsFront (K.held sink.old) (K.held sink.new) (reply_line at reply.now)) }
+    ensures later { K.faults sink.old ≤ K.faults sink.new }
+    ensures cause { IsErrOf result SinkFault.Failed → Rose (K.faults sink.old) (K.faults sink.new) }
+{
     let mut line = Vec::new(alloc);
-    match write_reply(alloc, at, &reply, &mut line) {
+    match write_reply(alloc, at, reply, &mut line) {
         Ok(()) => write_all(sink, &line),
         Err(_) => Err(SinkFault::NoMemory),
     }
