@@ -5,7 +5,7 @@ use Rattle.std.proofs.lemmas.List.{length_push}
 use Rattle.vx_call.specs.declared.history.Traced.{Traced}
 use Rattle.vx_call.specs.History.{Kind, made_by, lasting}
 use Rattle.vx_call.proofs.Lasting.{lasting-append, lasting_none}
-use Rattle.vx_call.proofs.Each.{Each, Each-at, Each-append, Each-filter, lasting_each, by_entries}
+use Rattle.vx_call.proofs.Each.{Each, Each-at, Each-append, Each-filter, Each-both, lasting_each, by_entries}
 
 -- no two pass the test
 abbrev pub Apart : {A : Type 0} → (A → A → Bool) → List A → Type 0
@@ -24,6 +24,31 @@ Apart-filter test p (x ∷ xs) apart =
       | true ↦ (Each-filter (λ y. test x y ≡ false) (λ y. test x y ≡ false) p xs (λ y passes h. h) apart.0, Apart-filter test p xs apart.1)
       | false ↦ Apart-filter test p xs apart.1
     ]
+
+-- a refused entry makes none
+pub made_if : {A : Type 0} (test : A → A → Bool) (key : A → ℕ) (n : ℕ) (b : Bool) (xs : List A) → IsMadeApart test key n xs → IsMadeApart test key n (cond b xs [])
+made_if test key n true xs made = made
+made_if test key n false xs made = record { keyed = tt; apart = tt }
+
+-- where all are apart, each that fails a test is apart from those that pass it
+pub others_apart : {A : Type 0} (test : A → A → Bool) → ((x y : A) → test x y ≡ test y x) → (p : A → Bool) (xs : List A) → Apart test xs →
+    Each (λ x. p x ≡ false → Each (λ y. test x y ≡ false) (filter p xs)) xs
+others_apart test symmetric p [] apart = tt
+others_apart {A} test symmetric p (x ∷ xs) apart =
+    let IsFrom : A → A → Type 0 = λ a b. test a b ≡ false in (
+      elim (p x) as (λ b. b ≡ false → Each (IsFrom x) (cond b (x ∷ filter p xs) (filter p xs))) [
+        | true ↦ λ fails. absurd cc
+        | false ↦ λ fails. Each-filter (IsFrom x) (IsFrom x) p xs (λ y passes h. h) apart.0
+      ],
+      Each-both (IsFrom x) (λ a. p a ≡ false → Each (IsFrom a) (filter p xs)) (λ a. p a ≡ false → Each (IsFrom a) (cond (p x) (x ∷ filter p xs) (filter p xs))) xs
+          (λ a first rest fails. elim (p x) as (λ b. Each (IsFrom a) (cond b (x ∷ filter p xs) (filter p xs))) [ true ↦ (symmetric a x ∙ first, rest fails) | false ↦ rest fails ])
+          apart.0 (others_apart test symmetric p xs apart.1),
+    )
+
+-- lists whose things are apart from each other
+pub Apart-cross : {A : Type 0} (test : A → A → Bool) (xs ys : List A) → Apart test xs → Apart test ys → Each (λ x. Each (λ y. test x y ≡ false) ys) xs → Apart test (xs ++ ys)
+Apart-cross test [] ys left right cross = right
+Apart-cross test (x ∷ xs) ys left right cross = (Each-append (λ y. test x y ≡ false) xs ys left.0 cross.0, Apart-cross test xs ys left.1 right cross.1)
 
 -- a test that implies one key is false at two
 different : {A : Type 0} (test : A → A → Bool) (key : A → ℕ) (x y : A) → (test x y ≡ true → key x ≡ key y) → key x < key y → test x y ≡ false

@@ -36,9 +36,37 @@ Each-filter P Q p (x ∷ xs) weaker each =
       | false ↦ λ w. Each-filter P Q p xs weaker each.1
     ] (weaker x)
 
+pub weaken : {A : Type 0} (P Q : A → Type 0) (xs : List A) → ((x : A) → P x → Q x) → Each P xs → Each Q xs
+weaken P Q [] weaker each = tt
+weaken P Q (x ∷ xs) weaker each = (weaker x each.0, weaken P Q xs weaker each.1)
+
+pub Each-both : {A : Type 0} (P Q R : A → Type 0) (xs : List A) → ((x : A) → P x → Q x → R x) → Each P xs → Each Q xs → Each R xs
+Each-both P Q R [] both left right = tt
+Each-both P Q R (x ∷ xs) both left right = (both x left.0 right.0, Each-both P Q R xs both left.1 right.1)
+
+-- what an accepted entry makes, where a refused one makes nothing
+pub accepted : {A : Type 0} (P : A → Type 0) (b : Bool) (xs : List A) → (b ≡ true → Each P xs) → Each P (cond b xs [])
+accepted P true xs each = each refl
+accepted P false xs each = tt
+
 not_true : (b : Bool) → not b ≡ true → b ≡ false
 not_true true h = sym h
 not_true false h = refl
+
+-- as below, where that it goes on needs to know what else lasts
+pub lasting_each_among : {A : Type 0} (kind : Kind A) (P : List Traced → A → Type 0) →
+    ((history : List Traced) (new : Traced) → Each (P history) (lasting kind history) → Each (λ x. ended_by kind history new x ≡ false → P (history ++ new ∷ []) x) (lasting kind history)) →
+    ((history : List Traced) (new : Traced) → Each (P (history ++ new ∷ [])) (made_by kind history new)) →
+    (history : List Traced) → Each (P history) (lasting kind history)
+lasting_each_among {A} kind P keeps made =
+    by_entries (λ history. Each (P history) (lasting kind history)) (let Q : List A → Type 0 = λ xs. Each (P []) xs in subst Q (sym (lasting_none kind)) tt)
+    (λ history new each.
+    let Q : List A → Type 0 = λ xs. Each (P (history ++ new ∷ [])) xs in
+    subst Q (sym (lasting-append kind history new))
+    (Each-append (P (history ++ new ∷ [])) _ _
+    (Each-filter (λ x. ended_by kind history new x ≡ false → P (history ++ new ∷ []) x) (P (history ++ new ∷ [])) (λ x. not (ended_by kind history new x)) (lasting kind history)
+    (λ x stays keep. keep (not_true (ended_by kind history new x) stays)) (keeps history new each))
+    (made history new)))
 
 -- what holds of a thing as it is made, and goes on by each entry that doesn't end it, holds of each that lasts
 pub lasting_each : {A : Type 0} (kind : Kind A) (P : List Traced → A → Type 0) →
@@ -46,11 +74,6 @@ pub lasting_each : {A : Type 0} (kind : Kind A) (P : List Traced → A → Type 
     ((history : List Traced) (new : Traced) → Each (P (history ++ new ∷ [])) (made_by kind history new)) →
     (history : List Traced) → Each (P history) (lasting kind history)
 lasting_each {A} kind P keeps made =
-    by_entries (λ history. Each (P history) (lasting kind history)) (let Q : List A → Type 0 = λ xs. Each (P []) xs in subst Q (sym (lasting_none kind)) tt)
-    (λ history new each.
-    let Q : List A → Type 0 = λ xs. Each (P (history ++ new ∷ [])) xs in
-    subst Q (sym (lasting-append kind history new))
-    (Each-append (P (history ++ new ∷ [])) _ _
-    (Each-filter (P history) (P (history ++ new ∷ [])) (λ x. not (ended_by kind history new x)) (lasting kind history)
-    (λ x stays. keeps history new x (not_true (ended_by kind history new x) stays)) each)
-    (made history new)))
+    lasting_each_among kind P
+    (λ history new each. weaken (P history) (λ x. ended_by kind history new x ≡ false → P (history ++ new ∷ []) x) (lasting kind history) (λ x before stays. keeps history new x stays before) each)
+    made

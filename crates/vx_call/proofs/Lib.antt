@@ -1,7 +1,10 @@
 pub mod Lasting
 pub mod Each
 pub mod Apart
-pub mod Waiting
+pub mod Found
+pub mod Opened
+pub mod ByDue
 pub mod Owners
+pub mod Waiting
 pub mod Legal
 pub mod Refused

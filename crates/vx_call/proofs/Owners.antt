@@ -1,53 +1,32 @@
--- The context of a task that waits is that of its consumer.
-use Rattle.std.proofs.Common.{◌≡◌, ℕ, ◌<◌, zero, suc, List, [], ◌∷◌, ◌++◌, length, refl, ap, sym, ◌∙◌, subst, arith}
-use Rattle.std.specs.Prelude.{Bool, true, false, cond, find, slice_get, Option, None, Some, ◌==◌, ◌&&◌}
-use Rattle.std.specs.Option.{option_map, option_to_list}
-use Rattle.std.proofs.lemmas.Bool.{eq-eqb, eqb-true}
+-- The context of a task that waits is that of its consumer, or the one that asked.
+use Rattle.std.proofs.Common.{◌≡◌, ℕ, ◌<◌, ◌+◌, List, [], ◌∷◌, ◌++◌, length, refl, ap, sym, ◌∙◌, subst, arith}
+use Rattle.std.specs.Prelude.{true, false, cond, find, Option, None, Some}
+use Rattle.std.specs.Option.{option_map}
+use Rattle.std.proofs.lemmas.Bool.{eq-eqb}
 use Rattle.std.proofs.lemmas.List.{length_push}
 use Rattle.vx_data.specs.declared.ids.ContextId.{ContextId}
-use Rattle.vx_data.specs.Tree.{Tree}
+use Rattle.vx_message.specs.declared.Message.{Message}
 use Rattle.vx_call.specs.declared.call.Call.{Call}
 use Rattle.vx_call.specs.declared.call.Call.TheVariants as calls
 use Rattle.vx_call.specs.declared.reply.Task.{Task}
 use Rattle.vx_call.specs.declared.reply.Task.TheVariants as tasks
 use Rattle.vx_call.specs.declared.history.Consumer.{Consumer}
 use Rattle.vx_call.specs.declared.history.Traced.{Traced}
-use Rattle.vx_call.specs.History.{is_accepted, made_by, ended_by}
+use Rattle.vx_call.specs.History.{is_accepted, made_by}
 use Rattle.vx_call.specs.Consumers.{consumer_kind, consumer_made, consumers, handlers, is_at, registered_kind, registered, is_named}
 use Rattle.vx_call.specs.Choices.{choice}
-use Rattle.vx_call.specs.Items.{Waiting, item_kind, item_made, waiting, delivery}
-use Rattle.vx_call.specs.Held.{context_of}
-use Rattle.vx_call.proofs.Lasting.{lasting_more}
-use Rattle.vx_call.proofs.Each.{Each, Each-filter, lasting_each}
+use Rattle.vx_call.specs.Given.{asked_made, asker, context_of}
+use Rattle.vx_call.specs.Settled.{Settled, settled_made}
+use Rattle.vx_call.specs.Items.{Waiting, item_kind, item_made, waiting, message_to_one, message_to_all, delivery, deliveries, delivery_to, outcome_item, outcome_items}
+use Rattle.vx_call.proofs.Lasting.{lasting_more, and_false}
+use Rattle.vx_call.proofs.Each.{Each, Each-append, Each-filter, weaken, accepted, lasting_each}
+use Rattle.vx_call.proofs.Found.{find_front, find_end, map_front, Each-get, later_name}
+use Rattle.vx_call.proofs.Opened.{keeps_asker, asker_made, open_asker, each_settled, each_settled_by}
 
-find_front : {X : Type 0} (p : X → Bool) (xs ys : List X) (x : X) → find p xs ≡ Some x → find p (xs ++ ys) ≡ Some x
-find_front p [] ys x h = cc
-find_front p (y ∷ xs) ys x h =
-    elim (p y) as (λ b. cond b (Some y) (find p xs) ≡ Some x → cond b (Some y) (find p (xs ++ ys)) ≡ Some x) [ true ↦ λ k. k | false ↦ λ k. find_front p xs ys x k ] h
-
-find_end : {X : Type 0} (p : X → Bool) (xs : List X) (x : X) → Each (λ y. p y ≡ false) xs → p x ≡ true → find p (xs ++ x ∷ []) ≡ Some x
-find_end p [] x none here = ap (λ b. cond b (Some x) None) here
-find_end p (y ∷ xs) x none here = ap (λ b. cond b (Some y) (find p (xs ++ x ∷ []))) none.0 ∙ find_end p xs x none.1 here
-
-Each-get : {X : Type 0} (P : X → Type 0) (xs : List X) (n : ℕ) (x : X) → Each P xs → slice_get xs n ≡ Some x → P x
-Each-get P [] n x each h = cc
-Each-get {X} P (y ∷ xs) zero x each h = let e : y ≡ x = cc in subst P e each.0
-Each-get P (y ∷ xs) (suc n) x each h = Each-get P xs n x each.1 h
-
-never : (history : List Traced) (new : Traced) (c : Consumer) → ended_by registered_kind history new c ≡ false
-never history new c = elim (is_accepted new.entry.reply) as (λ b. (b && false) ≡ false) [ true ↦ refl | false ↦ refl ]
+-- ## Consumers that were registered
 
 registered-append : (history : List Traced) (new : Traced) → registered (history ++ new ∷ []) ≡ registered history ++ made_by registered_kind history new
-registered-append history new = lasting_more registered_kind history new (never history new)
-
--- what holds of all that a kind of call makes holds of what an entry makes
-accepted : {A : Type 0} (P : A → Type 0) (b : Bool) (xs : List A) → Each P xs → Each P (cond b xs [])
-accepted P true xs each = each
-accepted P false xs each = tt
-
-weaken : {A : Type 0} (P Q : A → Type 0) (xs : List A) → ((x : A) → P x → Q x) → Each P xs → Each Q xs
-weaken P Q [] w each = tt
-weaken P Q (x ∷ xs) w each = (w x each.0, weaken P Q xs w each.1)
+registered-append history new = lasting_more registered_kind history new (λ c. and_false (is_accepted new.entry.reply))
 
 -- a consumer is named after an entry before
 abbrev IsEarlier : List Traced → Consumer → Type 0
@@ -57,26 +36,23 @@ new_earlier : (history : List Traced) (new : Traced) (call : Call) → Each (IsE
 new_earlier history new (calls.Register context address) = let e = length_push history new in (omega arith, tt)
 new_earlier history new _ = tt
 
-registered_earlier : (history : List Traced) → Each (IsEarlier history) (registered history)
+pub registered_earlier : (history : List Traced) → Each (λ (c : Consumer). c.id.0.0 < length history) (registered history)
 registered_earlier =
     lasting_each registered_kind IsEarlier (λ history new c stays before. let e = length_push history new in omega arith)
-    (λ history new. accepted (IsEarlier (history ++ new ∷ [])) (is_accepted new.entry.reply) (consumer_made history new.entry.call) (new_earlier history new new.entry.call))
+    (λ history new. accepted (IsEarlier (history ++ new ∷ [])) (is_accepted new.entry.reply) (consumer_made history new.entry.call) (λ ok. new_earlier history new new.entry.call))
 
 -- a consumer is found by its name
-abbrev IsFound : List Traced → Consumer → Type 0
+abbrev pub IsFound : List Traced → Consumer → Type 0
 IsFound history c = find (is_named c.id) (registered history) ≡ Some c
 
-other_name : (n m : ℕ) → m < n → (n == m) ≡ false
-other_name n m lt = elim (n == m) as (λ b. ((n == m) ≡ b) → b ≡ false) [ true ↦ λ h. (let e : n ≡ m = eqb-true n m h in absurd (omega arith)) | false ↦ λ h. refl ] refl
-
-new_found : (history : List Traced) (new : Traced) (call : Call) → Each (λ c. find (is_named c.id) (registered history ++ consumer_made history call) ≡ Some c) (consumer_made history call)
-new_found history new (calls.Register context address) = (
+new_found : (history : List Traced) (call : Call) → Each (λ c. find (is_named c.id) (registered history ++ consumer_made history call) ≡ Some c) (consumer_made history call)
+new_found history (calls.Register context address) = (
   find_end _ (registered history) _
-      (weaken (IsEarlier history) _ (registered history) (λ c before. other_name (length history) c.id.0.0 before) (registered_earlier history))
+      (weaken (IsEarlier history) _ (registered history) (λ c before. later_name (length history) c.id.0.0 before) (registered_earlier history))
       (eq-eqb (length history) (length history) refl),
   tt,
 )
-new_found history new _ = tt
+new_found history _ = tt
 
 keeps_found : (history : List Traced) (new : Traced) (c : Consumer) → IsFound history c → IsFound (history ++ new ∷ []) c
 keeps_found history new c found = ap (find (is_named c.id)) (registered-append history new) ∙ find_front (is_named c.id) (registered history) _ c found
@@ -86,41 +62,70 @@ made_found history new =
     let P : List Consumer → Type 0 = λ rs. Each (λ c. find (is_named c.id) rs ≡ Some c) (made_by consumer_kind history new) in
     subst P (sym (registered-append history new))
     (elim (is_accepted new.entry.reply) as (λ b. Each (λ c. find (is_named c.id) (registered history ++ cond b (consumer_made history new.entry.call) []) ≡ Some c) (cond b (consumer_made history new.entry.call) [])) [
-      | true ↦ new_found history new new.entry.call
+      | true ↦ new_found history new.entry.call
       | false ↦ tt
     ])
 
-consumers_found : (history : List Traced) → Each (IsFound history) (consumers history)
+pub consumers_found : (history : List Traced) → Each (IsFound history) (consumers history)
 consumers_found = lasting_each consumer_kind IsFound (λ history new c stays found. keeps_found history new c found) made_found
 
--- the context of a task that waits is that of its consumer
+pub handlers_found : (history : List Traced) (address : List ℕ) → Each (IsFound history) (handlers history address)
+handlers_found history address = Each-filter (IsFound history) (IsFound history) (is_at address) (consumers history) (λ x passes found. found) (consumers_found history)
+
+pub choice_found : (history : List Traced) (address : List ℕ) (c : Consumer) → choice history address ≡ Some c → IsFound history c
+choice_found history address c is_c = Each-get (IsFound history) (handlers history address) _ c (handlers_found history address) is_c
+
+-- ## Tasks that wait
+
+-- the context of a task that waits is that of its consumer, or the one that asked
 abbrev pub IsOwned : List Traced → Waiting → Type 0
 IsOwned history item = context_of history item.task ≡ Some item.context
 
-map_front : {X Y : Type 0} (f : X → Y) (p : X → Bool) (xs ys : List X) (y : Y) → option_map f (find p xs) ≡ Some y → option_map f (find p (xs ++ ys)) ≡ Some y
-map_front f p [] ys y h = cc
-map_front f p (x ∷ xs) ys y h =
-    elim (p x) as (λ b. option_map f (cond b (Some x) (find p xs)) ≡ Some y → option_map f (cond b (Some x) (find p (xs ++ ys))) ≡ Some y) [ true ↦ λ k. k | false ↦ λ k. map_front f p xs ys y k ] h
+abbrev context_that : Consumer → ContextId
+context_that consumer = consumer.context
 
 keeps_context : (history : List Traced) (new : Traced) (task : Task) (context : ContextId) → context_of history task ≡ Some context → context_of (history ++ new ∷ []) task ≡ Some context
 keeps_context history new (tasks.Deliver id message) context owned =
-    ap (λ rs. option_map (λ (consumer : Consumer). consumer.context) (find (is_named id) rs)) (registered-append history new)
-    ∙ map_front (λ (consumer : Consumer). consumer.context) (is_named id) (registered history) _ context owned
+    ap (λ rs. option_map context_that (find (is_named id) rs)) (registered-append history new) ∙ map_front context_that (is_named id) (registered history) _ context owned
+keeps_context history new (tasks.Outcome request outcome) context owned = keeps_asker history new request context owned
 
-owned_choice : (history : List Traced) (new : Traced) (address : List ℕ) (body : Tree) (chosen : Option Consumer) → ((c : Consumer) → chosen ≡ Some c → IsFound history c) →
-    Each (IsOwned (history ++ new ∷ [])) (option_to_list (option_map (delivery history address body) chosen))
-owned_choice history new address body None found = tt
-owned_choice history new address body (Some c) found = (ap (option_map (λ (consumer : Consumer). consumer.context)) (keeps_found history new c (found c refl)), tt)
+owned_delivery : (history : List Traced) (new : Traced) (message : Message) (place : ℕ) (c : Consumer) → IsFound history c → IsOwned (history ++ new ∷ []) (delivery history message place c)
+owned_delivery history new message place c found = ap (option_map context_that) (keeps_found history new c found)
 
-handlers_found : (history : List Traced) (address : List ℕ) → Each (IsFound history) (handlers history address)
-handlers_found history address = Each-filter (IsFound history) (IsFound history) (is_at address) (consumers history) (λ x passes found. found) (consumers_found history)
+owned_choice : (history : List Traced) (new : Traced) (message : Message) (chosen : Option Consumer) → ((c : Consumer) → chosen ≡ Some c → IsFound history c) →
+    Each (IsOwned (history ++ new ∷ [])) (delivery_to history message chosen)
+owned_choice history new message None found = tt
+owned_choice history new message (Some c) found = (owned_delivery history new message 0 c (found c refl), tt)
 
-new_owned : (history : List Traced) (new : Traced) (call : Call) → Each (IsOwned (history ++ new ∷ [])) (item_made history call)
-new_owned history new (calls.Send address body) = owned_choice history new address body (choice history address) (λ c is_c.
-    Each-get (IsFound history) (handlers history address) _ c (handlers_found history address) is_c)
-new_owned history new _ = tt
+owned_deliveries : (history : List Traced) (new : Traced) (message : Message) (place : ℕ) (all : List Consumer) → Each (IsFound history) all →
+    Each (IsOwned (history ++ new ∷ [])) (deliveries history message place all)
+owned_deliveries history new message place [] found = tt
+owned_deliveries history new message place (c ∷ others) found = (owned_delivery history new message place c found.0, owned_deliveries history new message (place + 1) others found.1)
+
+-- what holds of each request that ended, at any place
+pub each_outcome : (P : Waiting → Type 0) (place : ℕ) (all : List Settled) → Each (λ s. (at : ℕ) → P (outcome_item at s)) all → Each P (outcome_items place all)
+each_outcome P place [] each = tt
+each_outcome P place (s ∷ others) each = (each.0 place, each_outcome P (place + 1) others each.1)
+
+owned_outcomes : (history : List Traced) (new : Traced) (call : Call) → is_accepted new.entry.reply ≡ true → new.entry.call ≡ call → Each (IsOwned (history ++ new ∷ [])) (outcome_items 0 (settled_made history call))
+owned_outcomes history new call ok is_call =
+    let after = history ++ new ∷ [] in
+    let Owned : Settled → Type 0 = λ s. (at : ℕ) → IsOwned after (outcome_item at s) in
+    each_outcome (IsOwned after) 0 (settled_made history call)
+    (each_settled Owned history call
+    (each_settled_by (λ request. asker history request.id ≡ Some request.asker) Owned history call (λ request outcome known at. keeps_asker history new request.id request.asker known) (open_asker history))
+    (λ context address body time is_request nobody at. asker_made history new context ok (ap (asked_made history) (is_call ∙ is_request))))
+
+new_owned : (history : List Traced) (new : Traced) (call : Call) → is_accepted new.entry.reply ≡ true → new.entry.call ≡ call → Each (IsOwned (history ++ new ∷ [])) (item_made history call)
+new_owned history new (calls.Send address body) ok is_call = owned_choice history new (message_to_one history address body false) (choice history address) (choice_found history address)
+new_owned history new (calls.Publish address body) ok is_call = owned_deliveries history new (message_to_all history address body) 0 (handlers history address) (handlers_found history address)
+new_owned history new (calls.Request context address body timeout) ok is_call =
+    Each-append (IsOwned (history ++ new ∷ [])) (delivery_to history (message_to_one history address body true) (choice history address)) _
+    (owned_choice history new (message_to_one history address body true) (choice history address) (choice_found history address))
+    (owned_outcomes history new (calls.Request context address body timeout) ok is_call)
+new_owned history new call ok is_call = owned_outcomes history new call ok is_call
 
 pub waiting_owned : (history : List Traced) → Each (IsOwned history) (waiting history)
 waiting_owned =
     lasting_each item_kind IsOwned (λ history new item stays owned. keeps_context history new item.task item.context owned)
-    (λ history new. accepted (IsOwned (history ++ new ∷ [])) (is_accepted new.entry.reply) (item_made history new.entry.call) (new_owned history new new.entry.call))
+    (λ history new. accepted (IsOwned (history ++ new ∷ [])) (is_accepted new.entry.reply) (item_made history new.entry.call) (λ ok. new_owned history new new.entry.call ok refl))

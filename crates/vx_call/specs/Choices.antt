@@ -15,9 +15,14 @@ abbrev pub is_empty : {A : Type 0} → List A → Bool
 is_empty [] = true
 is_empty (x ∷ xs) = false
 
--- a Send chooses at its address where there are handlers
+-- a choice at an address, where there are handlers
+abbrev pub chosen_at : List Traced → List ℕ → List (List ℕ)
+chosen_at before address = if is_empty (handlers before address) then [] else address ∷ []
+
+-- a Send and a Request choose at their address
 abbrev pub choice_made : List Traced → Call → List (List ℕ)
-choice_made before (calls.Send address body) = if is_empty (handlers before address) then [] else address ∷ []
+choice_made before (calls.Send address body) = chosen_at before address
+choice_made before (calls.Request context address body timeout) = chosen_at before address
 choice_made before _ = []
 
 -- the address lost its last handler

@@ -1,10 +1,11 @@
--- Consumers and the handlers at an address. (Vert.x core manual, "The Event Bus API", "Registering Handlers".)
-use Rattle.std.specs.Prelude.{ℕ, Bool, false, List, [], ◌∷◌, filter}
+-- Consumers and the handlers at an address. (Vert.x core manual, "The Event Bus API", "Registering Handlers" and
+-- "Un-registering Handlers".)
+use Rattle.std.specs.Prelude.{ℕ, Bool, false, List, [], ◌∷◌, filter, find, Option}
 use Rattle.std.specs.Str.{bytes_eq}
 use Rattle.vx_data.specs.declared.ids.ConsumerId.{ConsumerId}
+use Rattle.vx_call.specs.declared.history.Consumer.{Consumer}
 use Rattle.vx_call.specs.declared.call.Call.{Call}
 use Rattle.vx_call.specs.declared.call.Call.TheVariants as calls
-use Rattle.vx_call.specs.declared.history.Consumer.{Consumer}
 use Rattle.vx_call.specs.declared.history.Traced.{Traced}
 use Rattle.vx_call.specs.History.{Kind, lasting}
 use Rattle.vx_call.specs.Names.{next_consumer, same_consumer}
@@ -13,8 +14,9 @@ abbrev pub consumer_made : List Traced → Call → List Consumer
 consumer_made before (calls.Register context address) = record { id = next_consumer before; context = context; address = address } ∷ []
 consumer_made before _ = []
 
--- whether an entry ends a consumer: the one test for all ways to end one, and no call does so far
+-- whether an entry ends a consumer: the one test for all ways to end one
 abbrev pub ends : List Traced → Call → ConsumerId → Bool
+ends before (calls.Unregister id) consumer = same_consumer id consumer
 ends before _ consumer = false
 
 abbrev pub consumer_kind : Kind Consumer
@@ -26,6 +28,13 @@ consumer_kind = record {
 -- the live consumers, in order of registration
 abbrev pub consumers : List Traced → List Consumer
 consumers history = lasting consumer_kind history
+
+abbrev pub is_named : ConsumerId → Consumer → Bool
+is_named id consumer = same_consumer id consumer.id
+
+-- the live consumer of this name
+abbrev pub live : List Traced → ConsumerId → Option Consumer
+live history id = find (is_named id) (consumers history)
 
 abbrev pub is_at : List ℕ → Consumer → Bool
 is_at address consumer = bytes_eq consumer.address address
@@ -43,6 +52,3 @@ registered_kind = record {
 
 abbrev pub registered : List Traced → List Consumer
 registered history = lasting registered_kind history
-
-abbrev pub is_named : ConsumerId → Consumer → Bool
-is_named id consumer = same_consumer id consumer.id

@@ -1,5 +1,5 @@
 -- Worked examples: calls of pass 0 from the empty history on, and the machine's replies to them.
-use Rattle.std.specs.Prelude.{ℕ, pos, codes, List, [], ◌∷◌}
+use Rattle.std.specs.Prelude.{ℕ, pos, negsuc, codes, Bool, true, false, List, [], ◌∷◌, ◌++◌, None, Some}
 use Rattle.vx_data.specs.declared.ids.EntryNo.{EntryNo}
 use Rattle.vx_data.specs.declared.ids.PassNo.{PassNo}
 use Rattle.vx_data.specs.declared.ids.ContextId.{ContextId}
@@ -8,6 +8,9 @@ use Rattle.vx_data.specs.declared.ids.MessageId.{MessageId}
 use Rattle.vx_data.specs.Tree.{Tree}
 use Rattle.vx_data.specs.Tree as tree
 use Rattle.vx_message.specs.declared.Lane.TheVariants as lanes
+use Rattle.vx_message.specs.declared.FailureKind.TheVariants as failures
+use Rattle.vx_message.specs.declared.Outcome.{Outcome}
+use Rattle.vx_message.specs.declared.Outcome.TheVariants as outcomes
 use Rattle.vx_call.specs.declared.call.Call.{Call}
 use Rattle.vx_call.specs.declared.call.Call.TheVariants as calls
 use Rattle.vx_call.specs.declared.call.End.TheVariants as ends
@@ -17,6 +20,7 @@ use Rattle.vx_call.specs.declared.reply.Refusal.{Refusal}
 use Rattle.vx_call.specs.declared.reply.Refusal.TheVariants as refusals
 use Rattle.vx_call.specs.declared.reply.Reply.{Reply}
 use Rattle.vx_call.specs.declared.reply.Reply.TheVariants as replies
+use Rattle.vx_call.specs.Settled.{failed}
 
 -- ## Names of things, by the entry that made them
 
@@ -52,8 +56,25 @@ finish = calls.Finish ends.Done
 abbrev pub sent_to : ℕ → Reply
 sent_to n = replies.Sent (reached.Consumer (consumer n))
 
+-- the task of a consumer that gets a message, which is a request or not
+abbrev pub handed : ℕ → ℕ → List ℕ → Tree → Bool → Reply
+handed n m address body request = replies.Task (tasks.Deliver (consumer n) (record { id = message m; address = address; body = body; request = request; publish = false }))
+
 abbrev pub delivered : ℕ → ℕ → List ℕ → Tree → Reply
-delivered n m address body = replies.Task (tasks.Deliver (consumer n) (record { id = message m; address = address; body = body }))
+delivered n m address body = handed n m address body false
+
+-- a request of context 0 to the consumers at "a", whose body is 1
+abbrev pub request : ℕ → Call
+request timeout = calls.Request (context 0) (codes "a") (tree.int (pos 1)) timeout
+
+abbrev pub asked_of : ℕ → Reply
+asked_of n = replies.Asked (reached.Consumer (consumer n))
+
+abbrev pub requested : ℕ → ℕ → Reply
+requested n m = handed n m (codes "a") (tree.int (pos 1)) true
+
+abbrev pub ended : ℕ → Outcome → Reply
+ended m outcome = replies.Task (tasks.Outcome (message m) outcome)
 
 abbrev pub refused : Refusal → Reply
 refused refusal = replies.Refused refusal
@@ -105,3 +126,113 @@ misfits = calls.Register (context 2) (codes "a") ∷ calls.Take (lanes.Own (cont
 
 abbrev pub misfits_replies : List Reply
 misfits_replies = refused refusals.NoContext ∷ refused refusals.NoLane ∷ replies.Context (context 2) ∷ refused refusals.BadAddress ∷ replies.Idle ∷ []
+
+-- ## Handlers come and go
+
+abbrev pub handler_leaves : List Call
+handler_leaves =
+    calls.NewContext
+    ∷ register (codes "a")
+    ∷ register (codes "a")
+    ∷ send (codes "a") 1
+    ∷ send (codes "a") 2
+    ∷ send (codes "a") 3
+    ∷ calls.Unregister (consumer 1)
+    ∷ send (codes "a") 4
+    ∷ []
+
+abbrev pub handler_leaves_replies : List Reply
+handler_leaves_replies =
+    replies.Context (context 0) ∷ replies.Consumer (consumer 1) ∷ replies.Consumer (consumer 2) ∷ sent_to 1 ∷ sent_to 2 ∷ sent_to 1 ∷ replies.Done ∷ sent_to 2 ∷ []
+
+-- the turns begin anew once all have left
+
+abbrev pub all_leave : List Call
+all_leave = handler_leaves ++ calls.Unregister (consumer 2) ∷ register (codes "a") ∷ send (codes "a") 0 ∷ []
+
+abbrev pub all_leave_replies : List Reply
+all_leave_replies = handler_leaves_replies ++ replies.Done ∷ replies.Consumer (consumer 9) ∷ sent_to 9 ∷ []
+
+-- ## A request ends once
+
+abbrev pub two_replies : List Call
+two_replies =
+    calls.NewContext
+    ∷ register (codes "a")
+    ∷ request 30000
+    ∷ take
+    ∷ calls.Reply (message 2) (tree.text (codes "x"))
+    ∷ calls.Reply (message 2) (tree.text (codes "y"))
+    ∷ finish
+    ∷ take
+    ∷ []
+
+abbrev pub two_replies_replies : List Reply
+two_replies_replies =
+    replies.Context (context 0)
+    ∷ replies.Consumer (consumer 1)
+    ∷ asked_of 1
+    ∷ requested 1 2
+    ∷ replies.Done
+    ∷ refused (refusals.Late (entry 4))
+    ∷ replies.Done
+    ∷ ended 2 (outcomes.Ok (tree.text (codes "x")) None)
+    ∷ []
+
+-- ## The time of a request is up
+
+abbrev pub time_up : List Call
+time_up = calls.NewContext ∷ register (codes "a") ∷ request 1 ∷ calls.Advance 0 ∷ calls.Advance 1 ∷ take ∷ finish ∷ take ∷ []
+
+abbrev pub time_up_replies : List Reply
+time_up_replies =
+    replies.Context (context 0)
+    ∷ replies.Consumer (consumer 1)
+    ∷ asked_of 1
+    ∷ replies.Fired 0
+    ∷ replies.Fired 1
+    ∷ requested 1 2
+    ∷ replies.Done
+    ∷ ended 2 (failed failures.Timeout (negsuc 0) (codes "timeout"))
+    ∷ []
+
+-- ## A reply that asks again
+
+abbrev pub reply_asks : List Call
+reply_asks =
+    calls.NewContext
+    ∷ register (codes "a")
+    ∷ request 30000
+    ∷ take
+    ∷ calls.ReplyRequest (message 2) (context 0) (tree.int (pos 2)) 30000
+    ∷ calls.Fail (message 2) (pos 4) (codes "no")
+    ∷ finish
+    ∷ take
+    ∷ calls.Fail (message 4) (negsuc 6) (codes "no")
+    ∷ finish
+    ∷ take
+    ∷ []
+
+abbrev pub reply_asks_replies : List Reply
+reply_asks_replies =
+    replies.Context (context 0)
+    ∷ replies.Consumer (consumer 1)
+    ∷ asked_of 1
+    ∷ requested 1 2
+    ∷ replies.Asked reached.Asker
+    ∷ refused (refusals.Late (entry 4))
+    ∷ replies.Done
+    ∷ ended 2 (outcomes.Ok (tree.int (pos 2)) (Some (message 4)))
+    ∷ replies.Done
+    ∷ replies.Done
+    ∷ ended 4 (failed failures.RecipientFailure (negsuc 6) (codes "no"))
+    ∷ []
+
+-- ## The handler that alone could reply is gone
+
+abbrev pub handler_lost : List Call
+handler_lost = calls.NewContext ∷ register (codes "a") ∷ request 30000 ∷ calls.Unregister (consumer 1) ∷ take ∷ []
+
+abbrev pub handler_lost_replies : List Reply
+handler_lost_replies =
+    replies.Context (context 0) ∷ replies.Consumer (consumer 1) ∷ asked_of 1 ∷ replies.Done ∷ ended 2 (failed failures.NoHandlers (negsuc 0) (codes "no_handlers")) ∷ []

@@ -3,7 +3,6 @@
 -- it finishes it, is this project's own.)
 use Rattle.std.specs.Prelude.{◌==◌, Bool, false, List, [], ◌∷◌, find, Option, None, Some}
 use Rattle.std.specs.List.{list_any}
-use Rattle.std.specs.Option.{option_map}
 use Rattle.vx_data.specs.declared.ids.PassNo.{PassNo}
 use Rattle.vx_data.specs.declared.ids.ContextId.{ContextId}
 use Rattle.vx_message.specs.declared.Held.{Held}
@@ -11,17 +10,10 @@ use Rattle.vx_call.specs.declared.call.Call.{Call}
 use Rattle.vx_call.specs.declared.call.Call.TheVariants as calls
 use Rattle.vx_call.specs.declared.reply.Reply.{Reply}
 use Rattle.vx_call.specs.declared.reply.Reply.TheVariants as replies
-use Rattle.vx_call.specs.declared.reply.Task.{Task}
-use Rattle.vx_call.specs.declared.reply.Task.TheVariants as tasks
-use Rattle.vx_call.specs.declared.history.Consumer.{Consumer}
 use Rattle.vx_call.specs.declared.history.Traced.{Traced}
 use Rattle.vx_call.specs.History.{Kind, lasting}
 use Rattle.vx_call.specs.Names.{next_entry, same_context}
-use Rattle.vx_call.specs.Consumers.{registered, is_named}
-
--- the context whose handler a task is: that of its consumer
-abbrev pub context_of : List Traced → Task → Option ContextId
-context_of history (tasks.Deliver id message) = option_map (λ (consumer : Consumer). consumer.context) (find (is_named id) (registered history))
+use Rattle.vx_call.specs.Given.{context_of}
 
 abbrev pub held_made : List Traced → PassNo → Call → Reply → List Held
 held_made before pass (calls.Take lane) (replies.Task task) = record { pass = pass; at = next_entry before; context = context_of before task } ∷ []

@@ -1,8 +1,12 @@
 pub mod History
 pub mod Names
+pub mod Passes
 pub mod Contexts
 pub mod Consumers
 pub mod Choices
+pub mod Given
+pub mod Requests
+pub mod Settled
 pub mod Items
 pub mod Held
 pub mod Next

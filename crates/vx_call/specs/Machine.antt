@@ -1,5 +1,5 @@
 -- The Vert.x machine: the reply to the next call after a history, and the histories in which every reply is that one.
-use Rattle.std.specs.Prelude.{◌≡◌, ℕ, ◌<◌, ◌^◌, if◌then◌else◌, List, [], ◌∷◌, ◌++◌, length}
+use Rattle.std.specs.Prelude.{◌≡◌, ◌<◌, ◌^◌, if◌then◌else◌, List, [], ◌∷◌, ◌++◌, length}
 use Rattle.vx_data.specs.declared.ids.PassNo.{PassNo}
 use Rattle.vx_call.specs.declared.call.Call.{Call}
 use Rattle.vx_call.specs.declared.call.Call.TheVariants as calls
@@ -7,17 +7,22 @@ use Rattle.vx_call.specs.declared.reply.Reply.{Reply}
 use Rattle.vx_call.specs.declared.history.Traced.{Traced}
 use Rattle.vx_call.specs.History.{plain_entry}
 use Rattle.vx_call.specs.Refusals.{unless_refused, spent, is_spent}
-use Rattle.vx_call.specs.Rows.{new_context_row, register_row, send_row, take_row, finish_row}
-
--- how many passes there are; pass 0 is there from the start
-abbrev pub passes : List Traced → ℕ
-passes history = 1
+use Rattle.vx_call.specs.Passes.{passes}
+use Rattle.vx_call.specs.Rows.{new_pass_row, new_context_row, register_row, unregister_row, send_row, publish_row, request_row, reply_row, fail_row, reply_request_row, advance_row, take_row, finish_row}
 
 -- the reply to a call of a pass, where the history is not spent
 abbrev pub row : List Traced → PassNo → Call → Reply
+row history pass calls.NewPass = new_pass_row history
 row history pass calls.NewContext = new_context_row history pass
-row history pass (calls.Register context address) = register_row history context address
+row history pass (calls.Register context address) = register_row history pass context address
+row history pass (calls.Unregister id) = unregister_row history pass id
 row history pass (calls.Send address body) = send_row history address
+row history pass (calls.Publish address body) = publish_row history address
+row history pass (calls.Request context address body timeout) = request_row history pass context address timeout
+row history pass (calls.Reply message body) = reply_row history pass message
+row history pass (calls.Fail message code text) = fail_row history pass message text
+row history pass (calls.ReplyRequest message context body timeout) = reply_request_row history pass message context timeout
+row history pass (calls.Advance moment) = advance_row history moment
 row history pass (calls.Take lane) = take_row history pass lane
 row history pass (calls.Finish end) = finish_row history pass
 

@@ -7,3 +7,12 @@ abbrev pub is_plain : Call → Bool
 is_plain (calls.Take lane) = false
 is_plain (calls.Finish end) = false
 is_plain _ = true
+
+-- plain calls that take no memory: each place that they need was reserved when a thing was made
+abbrev pub takes_no_memory : Call → Bool
+takes_no_memory calls.NewPass = true
+takes_no_memory (calls.Unregister id) = true
+takes_no_memory (calls.Reply message body) = true
+takes_no_memory (calls.Fail message code text) = true
+takes_no_memory (calls.Advance moment) = true
+takes_no_memory _ = false

@@ -1,7 +1,7 @@
 ghost use Rattle.std.specs.Prelude.{◌≡◌};
 ghost use Rattle.vx_call.specs.Plain.{is_plain};
 
-use vx_data::{Body, ContextId, Text};
+use vx_data::{Body, ConsumerId, ContextId, MessageId, Moment, Text};
 use vx_message::Lane;
 
 /// How a task ends.
@@ -13,12 +13,55 @@ pub enum End {
 /// What a pass asks of the hub.
 #[derive(Drop)]
 pub enum Call {
+    /// Makes a pass.
+    NewPass,
     /// Makes an outside context of this pass.
     NewContext,
     /// Registers a consumer of a context at an address of 1 to 1,024 bytes.
-    Register { context: ContextId, address: Text },
+    Register {
+        context: ContextId,
+        address: Text,
+    },
+    /// Ends a consumer, and the messages that wait for it.
+    Unregister(ConsumerId),
     /// Sends a message to one of the consumers at an address of 1 to 1,024 bytes.
-    Send { address: Text, body: Body },
+    Send {
+        address: Text,
+        body: Body,
+    },
+    /// Sends a message to all consumers at an address of 1 to 1,024 bytes.
+    Publish {
+        address: Text,
+        body: Body,
+    },
+    /// Sends a message to one of the consumers at an address of 1 to 1,024 bytes. The context gets the reply, or learns
+    /// that none came in time, from 1 to 1,000,000,000,000 ms.
+    Request {
+        context: ContextId,
+        address: Text,
+        body: Body,
+        timeout: u64,
+    },
+    /// Replies to a request that this pass's context was given.
+    Reply {
+        message: MessageId,
+        body: Body,
+    },
+    /// Fails a request that this pass's context was given, with a text of at most 65,536 bytes.
+    Fail {
+        message: MessageId,
+        code: i32,
+        text: Text,
+    },
+    /// Replies to a request, and asks for a reply to this reply in its turn, as a Request does.
+    ReplyRequest {
+        message: MessageId,
+        context: ContextId,
+        body: Body,
+        timeout: u64,
+    },
+    /// Tells the time, in ms. Requests whose time is up by now fail. The time never goes back.
+    Advance(Moment),
     /// Takes the next task of a lane.
     Take(Lane),
     /// Ends the task that the pass holds.

@@ -6,8 +6,10 @@ mod history;
 mod reply;
 #[cfg(test)]
 mod tests;
+mod unmade;
 
 pub use call::{Call, End};
 pub use history::{Consumer, Entry, Traced};
 pub use reply::{Refusal, Reply, Task, To};
+pub use unmade::Unmade;
 pub use vx_message::Lane;

@@ -1,6 +1,6 @@
 ghost use Rattle.std.specs.Prelude.{◌≡◌, []};
 ghost use Rattle.vx_call.specs.Runs.{replies_of};
-ghost use Rattle.vx_call.specs.Examples.{pass_0, one_message, one_message_replies, nobody, nobody_replies, two_handlers, two_handlers_replies, two_takes, two_takes_replies, no_task, no_task_replies, misfits, misfits_replies};
+ghost use Rattle.vx_call.specs.Examples.{pass_0, one_message, one_message_replies, nobody, nobody_replies, two_handlers, two_handlers_replies, two_takes, two_takes_replies, no_task, no_task_replies, misfits, misfits_replies, handler_leaves, handler_leaves_replies, all_leave, all_leave_replies, two_replies, two_replies_replies, time_up, time_up_replies, reply_asks, reply_asks_replies, handler_lost, handler_lost_replies};
 
 // The machine's replies to calls, computed from its definitions alone.
 fn worked_examples()
@@ -11,6 +11,12 @@ fn worked_examples()
     ensures two_takes { replies_of [] pass_0 two_takes ≡ two_takes_replies }
     ensures no_task { replies_of [] pass_0 no_task ≡ no_task_replies }
     ensures misfits { replies_of [] pass_0 misfits ≡ misfits_replies }
+    ensures handler_leaves { replies_of [] pass_0 handler_leaves ≡ handler_leaves_replies }
+    ensures all_leave { replies_of [] pass_0 all_leave ≡ all_leave_replies }
+    ensures two_replies { replies_of [] pass_0 two_replies ≡ two_replies_replies }
+    ensures time_up { replies_of [] pass_0 time_up ≡ time_up_replies }
+    ensures reply_asks { replies_of [] pass_0 reply_asks ≡ reply_asks_replies }
+    ensures handler_lost { replies_of [] pass_0 handler_lost ≡ handler_lost_replies }
 {}
 
 #[test]

@@ -1,58 +1,173 @@
 -- From the row of a call to the hub's promise.
-use Rattle.std.proofs.Common.{◌≡◌, ℕ, ◌+◌, ◌<◌, ◌^◌, List, [], ◌∷◌, ◌++◌, length, refl, ap, sym, ◌∙◌, subst, rules, tests}
-use Rattle.std.specs.Prelude.{true, false, cond, nat_le}
+use Rattle.std.proofs.Common.{◌≡◌, ℕ, ◌+◌, ◌-◌, ◌<◌, ◌^◌, min, max, List, [], ◌∷◌, ◌++◌, length, refl, ap, sym, ◌∙◌, subst, rules, tests}
+use Rattle.std.specs.Prelude.{Bool, true, false, ◌&&◌, cond, nat_le, fold}
 use Rattle.std.proofs.lemmas.List.{length_push}
+use Rattle.std.proofs.lemmas.List.Sums.{fold-append}
 use Rattle.std.proofs.Math.Logic.{∥∥₁_map}
 use Rattle.vx_data.specs.declared.ids.PassNo.{PassNo}
+use Rattle.vx_timer.specs.declared.timers.Timer.{Timer}
 use Rattle.vx_call.specs.declared.call.Call.{Call}
+use Rattle.vx_call.specs.declared.call.Call.TheVariants as calls
 use Rattle.vx_call.specs.declared.reply.Refusal.TheVariants as refusals
 use Rattle.vx_call.specs.declared.reply.Reply.{Reply}
+use Rattle.vx_call.specs.declared.reply.Reply.TheVariants as replies
 use Rattle.vx_call.specs.declared.history.Traced.{Traced}
-use Rattle.vx_call.specs.History.{plain_entry}
+use Rattle.vx_call.specs.History.{is_accepted, made_by, ended_by, plain_entry, lasting}
+use Rattle.vx_call.specs.Passes.{pass_made, passes}
+use Rattle.vx_call.specs.Requests.{moment_kind, moment_made, now}
 use Rattle.vx_call.specs.Refusals.{unless_refused, refused_if, is_spent}
 use Rattle.vx_call.specs.Machine.{row, answer}
+use Rattle.vx_call.specs.Plain.{is_plain}
+use Rattle.vx_call.proofs.Lasting.{lasting_same, lasting_more}
 use Rattle.vx_call.proofs.Legal.{legal_more}
 use Rattle.vx_call.proofs.Refused.{refused_unchanged}
-use Rattle.vx_hub.specs.Stores.{ContextStore, BusStore, HubStore}
-use Rattle.vx_hub.specs.Stands.{StoresStand, HubStands, StandsFor, Meets, Follows, ContextsFollow, BusFollows, ContextsStand, BusStands, IsOfHistory, AreOfOneHistory}
-use Rattle.vx_hub.proofs.Frames.{leaves_contexts, leaves_bus, contexts_frame, bus_frame}
+use Rattle.vx_context.specs.Stores.{ContextStore}
+use Rattle.vx_context.specs.Stands.{ContextsFollow}
+use Rattle.vx_core_bus.specs.Stores.{BusStore, is_bus_call}
+use Rattle.vx_core_bus.specs.Stands.{Follows, BusStands, TimersStand, AreOfOneHistory}
+use Rattle.vx_core_bus.proofs.Frames.{contexts_left, timers_left, bus_left}
+use Rattle.vx_hub.specs.Stores.{HubStore}
+use Rattle.vx_hub.specs.Stands.{PartsStand, PartsFollow, HubStands, StandsFor, Meets, IsOfHistory}
+use Rattle.vx_hub.proofs.RowNewPass.{passes_left, more_passes}
 
--- ## Rows that move one store
+-- ## Passes and time
 
-pub leaving_bus : (contexts : ContextStore) (bus : BusStore) (history : List Traced) (pass : PassNo) (call : Call) (reply : Reply) → leaves_bus call ≡ true → BusStands bus history →
-    ContextsFollow contexts history pass call reply → Follows contexts bus history pass call reply
-leaving_bus contexts bus history pass call reply leaves stands follows =
-    record { answered = follows.answered; stores = record { contexts = follows.stands; bus = bus_frame bus history pass call reply leaves stands } }
+either : {A : Type 0} (b : Bool) (x : A) → cond b x x ≡ x
+either true x = refl
+either false x = refl
 
-pub leaving_contexts : (contexts : ContextStore) (bus : BusStore) (history : List Traced) (pass : PassNo) (call : Call) (reply : Reply) → leaves_contexts call ≡ true → ContextsStand contexts history →
-    BusFollows bus history pass call reply → Follows contexts bus history pass call reply
-leaving_contexts contexts bus history pass call reply leaves stands follows =
-    record { answered = follows.answered; stores = record { contexts = contexts_frame contexts history pass call reply leaves stands; bus = follows.stands } }
+never : (b : Bool) → (b && false) ≡ false
+never true = refl
+never false = refl
+
+-- the calls that make no pass and tell no time
+abbrev pub keeps_time : Call → Bool
+keeps_time calls.NewPass = false
+keeps_time (calls.Advance moment) = false
+keeps_time _ = true
+
+no_pass : (history : List Traced) (call : Call) → keeps_time call ≡ true → pass_made history call ≡ []
+no_pass history calls.NewPass keeps = cc
+no_pass history _ keeps = refl
+
+no_moment : (call : Call) → keeps_time call ≡ true → moment_made call ≡ []
+no_moment (calls.Advance moment) keeps = cc
+no_moment _ keeps = refl
+
+pub bus_keeps_time : (call : Call) → is_bus_call call ≡ true → keeps_time call ≡ true
+bus_keeps_time calls.NewPass own = cc
+bus_keeps_time (calls.Advance moment) own = cc
+bus_keeps_time _ own = refl
+
+pub moment_stays : (history : List Traced) (new : Traced) (moment : ℕ) → ended_by moment_kind history new moment ≡ false
+moment_stays history new moment = never (is_accepted new.entry.reply)
+
+pub now_left : (history : List Traced) (new : Traced) → made_by moment_kind history new ≡ [] → now (history ++ new ∷ []) ≡ now history
+now_left history new none = ap (fold max 0) (lasting_same moment_kind history new none (moment_stays history new))
+
+-- a row that moves the stores alone
+pub keeping_time : (pass_count moment : ℕ) (contexts : ContextStore) (timers : List Timer) (bus : BusStore) (history : List Traced) (pass : PassNo) (call : Call) (reply : Reply) → keeps_time call ≡ true →
+    pass_count ≡ passes history → moment ≡ now history → Follows contexts timers bus history pass call reply → PartsFollow pass_count moment contexts timers bus history pass call reply
+keeping_time pass_count moment contexts timers bus history pass call reply keeps counted told follows = record {
+  answered = follows.answered;
+  parts = record {
+    passes = counted ∙ sym (passes_left history (plain_entry pass call reply) (ap (λ ps. cond (is_accepted reply) ps []) (no_pass history call keeps) ∙ either (is_accepted reply) []));
+    now = told ∙ sym (now_left history (plain_entry pass call reply) (ap (λ ms. cond (is_accepted reply) ms []) (no_moment call keeps) ∙ either (is_accepted reply) []));
+    stores = follows.stores;
+  };
+}
+
+-- ## Rows that move the contexts alone
+
+-- the calls that leave the bus and the timers
+abbrev pub leaves_bus : Call → Bool
+leaves_bus calls.NewPass = true
+leaves_bus calls.NewContext = true
+leaves_bus (calls.Finish end) = true
+leaves_bus _ = false
+
+bus_untouched : (store : BusStore) (history : List Traced) (pass : PassNo) (call : Call) (reply : Reply) → leaves_bus call ≡ true → BusStands store history → BusStands store (history ++ plain_entry pass call reply ∷ [])
+bus_untouched store history pass calls.NewPass reply leaves stands = bus_left store history (plain_entry pass calls.NewPass reply) (record {
+  consumers = either (is_accepted reply) [];
+  ended = λ c. never (is_accepted reply);
+  choices = either (is_accepted reply) [];
+  waiting = record { none = either (is_accepted reply) []; kept = λ x. never (is_accepted reply) };
+  requests = record { opened = either (is_accepted reply) []; settled = λ r. never (is_accepted reply) };
+  settled = either (is_accepted reply) [];
+  given = either (is_accepted reply) [];
+}) stands
+bus_untouched store history pass calls.NewContext reply leaves stands = bus_left store history (plain_entry pass calls.NewContext reply) (record {
+  consumers = either (is_accepted reply) [];
+  ended = λ c. never (is_accepted reply);
+  choices = either (is_accepted reply) [];
+  waiting = record { none = either (is_accepted reply) []; kept = λ x. never (is_accepted reply) };
+  requests = record { opened = either (is_accepted reply) []; settled = λ r. never (is_accepted reply) };
+  settled = either (is_accepted reply) [];
+  given = either (is_accepted reply) [];
+}) stands
+bus_untouched store history pass (calls.Finish end) reply leaves stands = bus_left store history (plain_entry pass (calls.Finish end) reply) (record {
+  consumers = either (is_accepted reply) [];
+  ended = λ c. never (is_accepted reply);
+  choices = either (is_accepted reply) [];
+  waiting = record { none = either (is_accepted reply) []; kept = λ x. never (is_accepted reply) };
+  requests = record { opened = either (is_accepted reply) []; settled = λ r. never (is_accepted reply) };
+  settled = either (is_accepted reply) [];
+  given = either (is_accepted reply) [];
+}) stands
+bus_untouched store history pass _ reply leaves stands = absurd cc
+
+timers_untouched : (timers : List Timer) (history : List Traced) (pass : PassNo) (call : Call) (reply : Reply) → leaves_bus call ≡ true → TimersStand timers history → TimersStand timers (history ++ plain_entry pass call reply ∷ [])
+timers_untouched timers history pass calls.NewPass reply leaves stands =
+    timers_left timers history (plain_entry pass calls.NewPass reply) (record { opened = either (is_accepted reply) []; settled = λ r. never (is_accepted reply) }) stands
+timers_untouched timers history pass calls.NewContext reply leaves stands =
+    timers_left timers history (plain_entry pass calls.NewContext reply) (record { opened = either (is_accepted reply) []; settled = λ r. never (is_accepted reply) }) stands
+timers_untouched timers history pass (calls.Finish end) reply leaves stands =
+    timers_left timers history (plain_entry pass (calls.Finish end) reply) (record { opened = either (is_accepted reply) []; settled = λ r. never (is_accepted reply) }) stands
+timers_untouched timers history pass _ reply leaves stands = absurd cc
+
+pub leaving_bus : (contexts : ContextStore) (timers : List Timer) (bus : BusStore) (history : List Traced) (pass : PassNo) (call : Call) (reply : Reply) → leaves_bus call ≡ true → TimersStand timers history → BusStands bus history →
+    ContextsFollow contexts history pass call reply → Follows contexts timers bus history pass call reply
+leaving_bus contexts timers bus history pass call reply leaves timed stands follows = record {
+  answered = follows.answered;
+  stores = record {
+    contexts = follows.stands;
+    timers = timers_untouched timers history pass call reply leaves timed;
+    bus = bus_untouched bus history pass call reply leaves stands;
+  };
+}
 
 -- ## One more entry
 
 below : (n m : ℕ) → m < n → nat_le n m ≡ false
 below n m lt = search (rules, tests)
 
+-- what a row promises in each history that the parts are those of
+abbrev pub Rows : HubStore → HubStore → PassNo → Call → Reply → Type 0
+Rows old new pass call reply = (history : List Traced) → PartsStand old.passes old.now old.contexts old.timers old.bus history → old.next ≡ length history → PartsFollow new.passes new.now new.contexts new.timers new.bus history pass call reply
+
 -- a row's entry goes on with the history
 pub parts_more : (old new : HubStore) (history : List Traced) (pass : PassNo) (call : Call) (reply : Reply) → HubStands old history → new.next ≡ old.next + 1 →
-    Follows new.contexts new.bus history pass call reply → HubStands new (history ++ plain_entry pass call reply ∷ [])
+    PartsFollow new.passes new.now new.contexts new.timers new.bus history pass call reply → HubStands new (history ++ plain_entry pass call reply ∷ [])
 parts_more old new history pass call reply stands more follows = record {
   next = more ∙ ap (λ n. n + 1) stands.next ∙ sym (length_push history (plain_entry pass call reply));
-  stores = follows.stores;
+  parts = follows.parts;
 }
 
--- what a row promises in each history that the stores are those of
-abbrev pub Rows : HubStore → HubStore → PassNo → Call → Reply → Type 0
-Rows old new pass call reply = (history : List Traced) → StoresStand old.contexts old.bus history → old.next ≡ length history → Follows new.contexts new.bus history pass call reply
+pub is_unspent : (history : List Traced) → length history < 2 ^ 48 → is_spent history ≡ false
+is_unspent history short = below (2 ^ 48) (length history) short
+
+-- where the history is not spent, the row's reply is the machine's
+pub row_answers : (history : List Traced) (pass : PassNo) (call : Call) (reply : Reply) → length history < 2 ^ 48 → reply ≡ row history pass call → reply ≡ answer history pass call
+row_answers history pass call reply short follows =
+    let unspent = is_unspent history short in
+    follows ∙ ap (λ b. unless_refused (refused_if b refusals.Spent) (row history pass call)) (sym unspent)
 
 pub meets : (old new : HubStore) (pass : PassNo) (call : Call) (reply : Reply) → old.next < 2 ^ 48 → new.next ≡ old.next + 1 → Rows old new pass call reply → Meets old new pass call reply
 meets old new pass call reply small more rows = λ history stands known.
     let short : length history < 2 ^ 48 = (let P : ℕ → Type 0 = λ n. n < 2 ^ 48 in subst P stands.parts.next small) in
-    let unspent : is_spent history ≡ false = below (2 ^ 48) (length history) short in
-    let follows = rows history stands.parts.stores stands.parts.next in
-    let answers : reply ≡ answer history pass call =
-    follows.answered ∙ ap (λ b. unless_refused (refused_if b refusals.Spent) (row history pass call)) (sym unspent) in
+    let unspent = is_unspent history short in
+    let follows = rows history stands.parts.parts stands.parts.next in
+    let answers = row_answers history pass call reply short follows.answered in
     record {
       answered = answers;
       stands =
@@ -67,12 +182,63 @@ meets old new pass call reply small more rows = λ history stands known.
 -- the hub is still that of some history
 pub of_history_more : (old new : HubStore) (pass : PassNo) (call : Call) (reply : Reply) → new.next ≡ old.next + 1 → Rows old new pass call reply → IsOfHistory old → IsOfHistory new
 of_history_more old new pass call reply more rows one =
-    ∥∥₁_map one (λ p. (p.0 ++ plain_entry pass call reply ∷ [], parts_more old new p.0 pass call reply p.1 more (rows p.0 p.1.stores p.1.next)))
+    ∥∥₁_map one (λ p. (p.0 ++ plain_entry pass call reply ∷ [], parts_more old new p.0 pass call reply p.1 more (rows p.0 p.1.parts p.1.next)))
 
 -- ## Want of memory
 
-pub of_history_still : (old new : HubStore) → new.next ≡ old.next → ((history : List Traced) → StoresStand old.contexts old.bus history → StoresStand new.contexts new.bus history) → IsOfHistory old → IsOfHistory new
-of_history_still old new same keeps one = ∥∥₁_map one (λ p. (p.0, record { next = same ∙ p.1.next; stores = keeps p.0 p.1.stores }))
+pub of_history_still : (old new : HubStore) → new.next ≡ old.next →
+    ((history : List Traced) → PartsStand old.passes old.now old.contexts old.timers old.bus history → PartsStand new.passes new.now new.contexts new.timers new.bus history) → IsOfHistory old → IsOfHistory new
+of_history_still old new same keeps one = ∥∥₁_map one (λ p. (p.0, record { next = same ∙ p.1.next; parts = keeps p.0 p.1.parts }))
 
-pub of_one_history : (hub : HubStore) → IsOfHistory hub → AreOfOneHistory hub.contexts hub.bus
-of_one_history hub one = ∥∥₁_map one (λ p. (p.0, p.1.stores))
+pub of_one_history : (hub : HubStore) → IsOfHistory hub → AreOfOneHistory hub.contexts hub.timers hub.bus
+of_one_history hub one = ∥∥₁_map one (λ p. (p.0, p.1.parts.stores))
+
+-- ## Plain calls
+
+-- a plain call that makes no pass, no context and tells no time is the bus's
+pub is_of_bus : (call : Call) → is_plain call ≡ true → (call ≡ calls.NewPass → ⊥) → (call ≡ calls.NewContext → ⊥) → ((moment : ℕ) → call ≡ calls.Advance moment → ⊥) → is_bus_call call ≡ true
+is_of_bus calls.NewPass plain no_pass no_context no_time = absurd (no_pass refl)
+is_of_bus calls.NewContext plain no_pass no_context no_time = absurd (no_context refl)
+is_of_bus (calls.Advance moment) plain no_pass no_context no_time = absurd (no_time moment refl)
+is_of_bus (calls.Take lane) plain no_pass no_context no_time = cc
+is_of_bus (calls.Finish end) plain no_pass no_context no_time = cc
+is_of_bus _ plain no_pass no_context no_time = refl
+
+-- a new pass
+pub makes_pass : (old_count new_count moment : ℕ) (contexts : ContextStore) (timers : List Timer) (bus : BusStore) (history : List Traced) (pass : PassNo) (reply : Reply) →
+    PartsStand old_count moment contexts timers bus history → length history < 2 ^ 48 → reply ≡ replies.Pass (record { 0 = old_count }) → new_count ≡ min (old_count + 1) (2 ^ 64 - 1) →
+    PartsFollow new_count moment contexts timers bus history pass calls.NewPass reply
+makes_pass old_count new_count moment contexts timers bus history pass reply stands small is_reply is_new =
+    let entry = plain_entry pass calls.NewPass (replies.Pass (record { 0 = old_count })) in
+    let P : Reply → Type 0 = λ r. PartsFollow new_count moment contexts timers bus history pass calls.NewPass r in
+    let follows = leaving_bus contexts timers bus history pass calls.NewPass (replies.Pass (record { 0 = old_count })) refl stands.stores.timers stands.stores.bus
+    (record {
+      answered = ap (λ n. replies.Pass (record { 0 = n })) stands.passes;
+      stands = contexts_left contexts history entry (record { contexts = refl; held = refl; finished = λ h. refl; waiting = record { none = refl; kept = λ w. refl } }) stands.stores.contexts;
+    }) in
+    subst P (sym is_reply) (record {
+      answered = follows.answered;
+      parts = record {
+        passes = more_passes history pass (record { 0 = old_count }) old_count new_count stands.passes small is_new;
+        now = stands.now ∙ sym (now_left history entry refl);
+        stores = follows.stores;
+      };
+    })
+
+-- the time that an Advance tells
+pub tells_time : (pass_count old_moment new_moment moment : ℕ) (contexts : ContextStore) (timers : List Timer) (bus : BusStore) (history : List Traced) (pass : PassNo) (reply : Reply) →
+    pass_count ≡ passes history → old_moment ≡ now history → new_moment ≡ max old_moment moment → Follows contexts timers bus history pass (calls.Advance moment) reply →
+    PartsFollow pass_count new_moment contexts timers bus history pass (calls.Advance moment) reply
+tells_time pass_count old_moment new_moment moment contexts timers bus history pass reply counted told is_new follows =
+    let entry = plain_entry pass (calls.Advance moment) reply in
+    let accepted : is_accepted reply ≡ true = ap is_accepted follows.answered in
+    record {
+      answered = follows.answered;
+      parts = record {
+        passes = counted ∙ sym (passes_left history entry (either (is_accepted reply) []));
+        now = is_new ∙ ap (λ m. max m moment) told
+            ∙ sym (ap (fold max 0) (lasting_more moment_kind history entry (moment_stays history entry) ∙ ap (λ b. lasting moment_kind history ++ cond b (moment ∷ []) []) accepted)
+            ∙ fold-append max 0 (lasting moment_kind history) (moment ∷ []));
+        stores = follows.stores;
+      };
+    }

@@ -1,10 +1,10 @@
 pub mod Positions
-pub mod Rounds
-pub mod Frames
+pub mod Views
+pub mod RowNewPass
 pub mod RowNewContext
 pub mod RowFinish
-pub mod RowRegister
-pub mod RowSend
-pub mod Views
 pub mod RowTake
 pub mod Calls
+pub mod Requests
+pub mod Advancing
+pub mod RowAdvance

@@ -6,7 +6,7 @@ use Rattle.std.specs.List.{position_or_len, list_any}
 use Rattle.std.proofs.lemmas.List.Folds.{find_at}
 use Rattle.std.proofs.lemmas.List.Quantifiers.{position-Some}
 use Rattle.std.proofs.lemmas.Option.{cond_some, slice_get-get_or, slice_get_past}
-use Rattle.vx_hub.specs.Stores.{without_first}
+use Rattle.vx_core_bus.specs.Stores.{without_first}
 
 pub find_from_position : {X : Type 0} (p : X → Bool) (xs : List X) (i : ℕ) (d : X) → position p xs ≡ Some i → find p xs ≡ Some (get_or xs i d)
 find_from_position p xs i d h =

@@ -3,34 +3,40 @@ use Rattle.std.proofs.Common.{◌≡◌, ℕ, ◌<◌, List, [], ◌∷◌, ◌+
 use Rattle.std.specs.Prelude.{true, not, ◌&&◌, filter, remove, map, find, position, is_some, Option, None, Some}
 use Rattle.std.specs.List.{count_by, filter_map}
 use Rattle.std.specs.Str.{bytes_eq}
-use Rattle.std.specs.Option.{option_map}
+use Rattle.std.specs.Option.{option_map, option_or}
 use Rattle.std.proofs.lemmas.List.{append-nil, length-map, get_or-map, get_or_default}
 use Rattle.std.proofs.lemmas.List.Quantifiers.{position-Some}
+use Rattle.std.proofs.lemmas.List.Folds.{find-append}
 use Rattle.std.proofs.Math.Bool.{Bool-set}
 use Rattle.std.proofs.Math.Logic.{∥∥₁_elim}
 use Rattle.vx_data.specs.declared.ids.EntryNo.{EntryNo}
 use Rattle.vx_data.specs.declared.ids.PassNo.{PassNo}
 use Rattle.vx_data.specs.declared.ids.ContextId.{ContextId}
-use Rattle.vx_data.specs.declared.ids.ConsumerId.{ConsumerId}
 use Rattle.vx_data.specs.declared.ids.MessageId.{MessageId}
-use Rattle.vx_message.specs.declared.Message.{Message}
+use Rattle.vx_message.specs.declared.Given.{Given}
+use Rattle.vx_timer.specs.declared.timers.Timer.{Timer}
+use Rattle.vx_ring.specs.Rings.{consumers_at, choices_at}
+use Rattle.vx_request.specs.Stores.{ended_at, given_at}
 use Rattle.vx_message.specs.declared.Lane.{Lane}
 use Rattle.vx_message.specs.declared.Lane.TheVariants as lanes
 use Rattle.vx_message.specs.declared.Item.{Item}
-use Rattle.vx_message.specs.declared.ItemKind.TheVariants as kinds
+use Rattle.vx_message.specs.declared.ItemKind.{ItemKind}
 use Rattle.vx_message.specs.declared.Held.{Held}
 use Rattle.vx_call.specs.declared.call.Call.TheVariants as calls
 use Rattle.vx_call.specs.declared.reply.Reply.TheVariants as replies
 use Rattle.vx_call.specs.declared.reply.Task.{Task}
-use Rattle.vx_call.specs.declared.reply.Task.TheVariants as tasks
 use Rattle.vx_call.specs.declared.history.Traced.{Traced}
-use Rattle.vx_call.specs.History.{plain_entry}
-use Rattle.vx_call.specs.Names.{same_consumer, same_message}
+use Rattle.vx_call.specs.History.{plain_entry, lasting}
+use Rattle.vx_call.specs.Names.{same_message}
 use Rattle.vx_call.specs.Contexts.{context_kind}
-use Rattle.vx_call.specs.Consumers.{consumer_kind}
+use Rattle.vx_call.specs.Consumers.{consumer_kind, is_at}
 use Rattle.vx_call.specs.Choices.{choice_kind}
-use Rattle.vx_call.specs.Items.{Waiting, item_kind, waiting, same_task}
-use Rattle.vx_call.specs.Held.{held_kind, held, context_of, runs}
+use Rattle.vx_call.specs.Given.{context_of, given, given_kind, given_by_task}
+use Rattle.vx_call.specs.Requests.{open_kind}
+use Rattle.vx_call.specs.Settled.{Settled, settled_kind}
+use Rattle.vx_call.specs.Rows.{ids_of}
+use Rattle.vx_call.specs.Items.{Waiting, item_kind, waiting, kind_of, same_kind, same_task}
+use Rattle.vx_call.specs.Held.{held_kind, held, runs}
 use Rattle.vx_call.specs.Next.{is_on, next}
 use Rattle.vx_call.specs.Refusals.{unless_refused}
 use Rattle.vx_call.specs.Rows.{take_refusal, handed_out}
@@ -39,12 +45,13 @@ use Rattle.vx_call.proofs.Each.{Each-at}
 use Rattle.vx_call.proofs.Apart.{remove_apart, before_apart}
 use Rattle.vx_call.proofs.Owners.{IsOwned, waiting_owned}
 use Rattle.vx_call.proofs.Waiting.{same_waiting, same_task-self, same_task-swap, waiting_apart}
-use Rattle.vx_hub.specs.declared.bus.Parcel.{Parcel}
-use Rattle.vx_hub.specs.Stores.{ContextStore, BusStore, kind_of, item_of, parcel_in, parcel_of, runs_in, is_on_lane, is_ready, is_parcel, has_parcel, without_first, choices_at}
-use Rattle.vx_hub.specs.Stands.{StoresStand, ContextsStand, BusStands, Follows, IsNext, AreOfOneHistory}
+use Rattle.vx_context.specs.Stores.{ContextStore, item_of, runs_in, is_on_lane, is_ready}
+use Rattle.vx_context.specs.Stands.{ContextsStand, IsNext}
+use Rattle.vx_core_bus.specs.Stores.{BusStore, task_of, row_of, is_of_kind, has_task, without_first}
+use Rattle.vx_core_bus.specs.Stands.{StoresStand, BusStands, Follows, AreOfOneHistory}
+use Rattle.vx_core_bus.proofs.Frames.{never_ended, none_emptied, never_settled, never_taken_back, contexts_left, timers_left, bus_left, LeavesWaiting}
 use Rattle.vx_hub.proofs.Positions.{find_from_position, find_from_no_position}
 use Rattle.vx_hub.proofs.Views.{Matches, IsFirst, remove-map, position-map, find-filter_map, without_first-filter_map}
-use Rattle.vx_hub.proofs.Frames.{never_ended, none_emptied, contexts_left, bus_left, LeavesWaiting}
 
 -- ## The next task of a lane
 
@@ -64,9 +71,9 @@ place_there store history lane stands =
     ∙ position-map item_of (is_ready store.held lane) (λ (item : Waiting). is_on lane item && not (runs history item.context)) (ready_there store history lane stands) (waiting history)
 
 -- the lane has no next task
-pub takes_none : (contexts : ContextStore) (bus : BusStore) (history : List Traced) (pass : PassNo) (lane : Lane) → StoresStand contexts bus history → take_refusal history pass lane ≡ None →
-    position (is_ready contexts.held lane) contexts.waiting ≡ None → Follows contexts bus history pass (calls.Take lane) replies.Idle
-takes_none contexts bus history pass lane stands free none =
+pub takes_none : (contexts : ContextStore) (timers : List Timer) (bus : BusStore) (history : List Traced) (pass : PassNo) (lane : Lane) → StoresStand contexts timers bus history → take_refusal history pass lane ≡ None →
+    position (is_ready contexts.held lane) contexts.waiting ≡ None → Follows contexts timers bus history pass (calls.Take lane) replies.Idle
+takes_none contexts timers bus history pass lane stands free none =
     let entry = plain_entry pass (calls.Take lane) replies.Idle in
     let idle : next history lane ≡ None = find_from_no_position _ (waiting history) (sym (place_there contexts history lane stands.contexts) ∙ none) in
     let waits : LeavesWaiting history entry = record { none = refl; kept = λ w. refl } in
@@ -74,7 +81,8 @@ takes_none contexts bus history pass lane stands free none =
       answered = sym (ap (λ r. unless_refused r (handed_out (next history lane))) free ∙ ap handed_out idle);
       stores = record {
         contexts = contexts_left contexts history entry (record { contexts = refl; held = refl; finished = λ h. refl; waiting = waits }) stands.contexts;
-        bus = bus_left bus history entry (record { consumers = refl; ended = λ c. refl; choices = refl; waiting = waits }) stands.bus;
+        timers = timers_left timers history entry (record { opened = refl; settled = λ r. refl }) stands.timers;
+        bus = bus_left bus history entry (record { consumers = refl; ended = λ c. refl; choices = refl; waiting = waits; requests = record { opened = refl; settled = λ r. refl }; settled = refl; given = refl }) stands.bus;
       };
     }
 
@@ -145,79 +153,94 @@ taken_contexts old new history at pass lane i item w stands is_next waits is_ite
           ∙ ap (map item_of) (sym (taken_waiting history pass lane i w waits));
     }
 
--- ## The message of a delivery
+-- ## The task at the place
 
-same_parcel : (task other : Task) (consumer : ConsumerId) (id : MessageId) → kind_of task ≡ kinds.Deliver consumer id → Matches (is_parcel consumer id) (parcel_in other) (same_task task other)
-same_parcel (tasks.Deliver owner message) (tasks.Deliver other another) consumer id is_kind =
-    let owners : owner ≡ consumer = cc in
-    let ids : message.id ≡ id = cc in
-    ap (λ k. same_consumer k other && same_message id another.id) (sym owners) ∙ ap (λ m. same_consumer owner other && same_message m another.id) (sym ids)
+same_kind_of : (kind : ItemKind) (task : Task) → kind_of task ≡ kind → (other : Waiting) → Matches (is_of_kind kind) (task_of other) (same_task task other.task)
+same_kind_of kind task is_kind other = ap (λ k. same_kind k (kind_of other.task)) (sym is_kind)
 
--- the bus has the message of a delivery that waits
-pub find_parcel : (bus : BusStore) (history : List Traced) (i : ℕ) (w : Waiting) (consumer : ConsumerId) (id : MessageId) → BusStands bus history → WaitsAt history i w → kind_of w.task ≡ kinds.Deliver consumer id →
-    find (is_parcel consumer id) bus.parcels ≡ parcel_in w.task
-find_parcel bus history i w consumer id stands waits is_kind =
-    ap (find (is_parcel consumer id)) stands.parcels
-    ∙ find-filter_map parcel_of (is_parcel consumer id) (same_waiting w) (λ x. same_parcel w.task x.task consumer id is_kind) (waiting history) i w (is_first history i w waits)
-    ∙ ap parcel_of (waits.read w)
+-- the bus has the task that waits
+pub find_task : (bus : BusStore) (history : List Traced) (i : ℕ) (w : Waiting) (kind : ItemKind) → BusStands bus history → WaitsAt history i w → kind_of w.task ≡ kind →
+    find (is_of_kind kind) bus.tasks ≡ Some w.task
+find_task bus history i w kind stands waits is_kind =
+    ap (find (is_of_kind kind)) stands.tasks
+    ∙ find-filter_map task_of (is_of_kind kind) (same_waiting w) (same_kind_of kind w.task is_kind) (waiting history) i w (is_first history i w waits)
+    ∙ ap task_of (waits.read w)
 
--- what the bus has after a Take of a delivery
-pub taken_bus : (old new : BusStore) (history : List Traced) (pass : PassNo) (lane : Lane) (i : ℕ) (w : Waiting) (consumer : ConsumerId) (id : MessageId) → BusStands old history →
-    WaitsAt history i w → kind_of w.task ≡ kinds.Deliver consumer id → new ≡ record old { parcels = without_first (is_parcel consumer id) old.parcels; room = new.room } →
+-- the task that waits is there
+pub task_there : (contexts : ContextStore) (timers : List Timer) (bus : BusStore) (i : ℕ) (item : Item) → AreOfOneHistory contexts timers bus → i < length contexts.waiting →
+    item ≡ get_or contexts.waiting i item → has_task item.kind bus.tasks ≡ true
+task_there contexts timers bus i item one inside read =
+    ∥∥₁_elim one (Bool-set (has_task item.kind bus.tasks) true) (λ p.
+    let there = item_there contexts p.0 i item p.1.contexts inside read in
+    ap is_some (find_task bus p.0 i there.0 item.kind p.1.bus there.1.0 (ap (λ (x : Item). x.kind) (sym there.1.1))))
+
+-- what a Take gives out
+given_out : (history : List Traced) (pass : PassNo) (lane : Lane) (w : Waiting) (id : MessageId) → context_of history w.task ≡ Some w.context →
+    given (history ++ plain_entry pass (calls.Take lane) (replies.Task w.task) ∷ []) id
+    ≡ option_or (given history id) (find (λ (g : Given). same_message id g.id) (given_by_task (Some w.context) w.task))
+given_out history pass lane w id owned =
+    ap (find (λ (g : Given). same_message id g.id)) (lasting_more given_kind history (plain_entry pass (calls.Take lane) (replies.Task w.task)) (never_taken_back history (plain_entry pass (calls.Take lane) (replies.Task w.task))))
+    ∙ find-append (λ (g : Given). same_message id g.id) (lasting given_kind history) (given_by_task (context_of history w.task) w.task)
+    ∙ ap (λ c. option_or (given history id) (find (λ (g : Given). same_message id g.id) (given_by_task c w.task))) owned
+
+-- what the bus has after a Take
+taken_bus : (old new : BusStore) (history : List Traced) (pass : PassNo) (lane : Lane) (i : ℕ) (w : Waiting) (kind : ItemKind) (context : ContextId) → BusStands old history →
+    WaitsAt history i w → kind_of w.task ≡ kind → w.context ≡ context → new ≡ record old { tasks = without_first (is_of_kind kind) old.tasks; given = new.given; room = new.room } →
+    ((id : MessageId) → given_at id new.given ≡ option_or (given_at id old.given) (find (λ (g : Given). same_message id g.id) (given_by_task (Some context) w.task))) →
     BusStands new (history ++ plain_entry pass (calls.Take lane) (replies.Task w.task) ∷ [])
-taken_bus old new history pass lane i w consumer id stands waits is_kind is_new =
+taken_bus old new history pass lane i w kind context stands waits is_kind is_context is_new is_given =
     let entry = plain_entry pass (calls.Take lane) (replies.Task w.task) in
+    let Q : Waiting → Type 0 = IsOwned history in
+    let owned : context_of history w.task ≡ Some w.context = subst Q (waits.read w) (Each-at Q (waiting history) i w waits.inside (waiting_owned history)) in
     let same = lasting_same consumer_kind history entry refl (λ c. refl) in
+    let requests = lasting_same open_kind history entry refl (λ r. refl) in
     record {
       consumers = ap (λ (s : BusStore). s.consumers) is_new ∙ stands.consumers ∙ sym same;
-      rounds = λ a. ap (λ (s : BusStore). choices_at a s.rounds) is_new ∙ stands.rounds a ∙ ap (count_by (bytes_eq a)) (sym (lasting_same choice_kind history entry refl (none_emptied history entry same)));
-      parcels = ap (λ (s : BusStore). s.parcels) is_new
-          ∙ ap (without_first (is_parcel consumer id)) stands.parcels
-          ∙ without_first-filter_map parcel_of (is_parcel consumer id) (same_waiting w) (λ x. same_parcel w.task x.task consumer id is_kind) (waiting history) i w (is_first history i w waits)
-          ∙ ap (filter_map parcel_of) (sym (taken_waiting history pass lane i w waits));
+      rings = λ a. ap (λ (s : BusStore). consumers_at a s.rings) is_new ∙ stands.rings a ∙ ap (λ cs. ids_of (filter (is_at a) cs)) (sym same);
+      choices = λ a. ap (λ (s : BusStore). choices_at a s.rings) is_new ∙ stands.choices a ∙ ap (count_by (bytes_eq a)) (sym (lasting_same choice_kind history entry refl (none_emptied history entry same)));
+      tasks = ap (λ (s : BusStore). s.tasks) is_new
+          ∙ ap (without_first (is_of_kind kind)) stands.tasks
+          ∙ without_first-filter_map task_of (is_of_kind kind) (same_waiting w) (same_kind_of kind w.task is_kind) (waiting history) i w (is_first history i w waits)
+          ∙ ap (filter_map task_of) (sym (taken_waiting history pass lane i w waits));
+      opened = ap (λ (s : BusStore). s.requests.waiting) is_new ∙ stands.opened ∙ ap (map row_of) (sym requests);
+      ended = λ id. ap (λ (s : BusStore). ended_at id s.requests.ended) is_new ∙ stands.ended id
+          ∙ ap (λ ss. option_map (λ (s : Settled). s.at) (find (λ (s : Settled). same_message id s.request) ss)) (sym (lasting_same settled_kind history entry refl (never_settled history entry)));
+      given = λ id. is_given id
+          ∙ ap (λ g. option_or g (find (λ (g : Given). same_message id g.id) (given_by_task (Some context) w.task))) (stands.given id)
+          ∙ ap (λ k. option_or (given history id) (find (λ (g : Given). same_message id g.id) (given_by_task (Some k) w.task))) (sym is_context)
+          ∙ sym (given_out history pass lane w id owned);
     }
-
-is_there : (task : Task) (consumer : ConsumerId) (id : MessageId) → kind_of task ≡ kinds.Deliver consumer id → is_some (parcel_in task) ≡ true
-is_there (tasks.Deliver owner message) consumer id is_kind = refl
-
--- the message of a delivery that waits is there
-pub parcel_there : (contexts : ContextStore) (bus : BusStore) (i : ℕ) (item : Item) (consumer : ConsumerId) (id : MessageId) → AreOfOneHistory contexts bus → i < length contexts.waiting →
-    item ≡ get_or contexts.waiting i item → item.kind ≡ kinds.Deliver consumer id → has_parcel consumer id bus.parcels ≡ true
-parcel_there contexts bus i item consumer id one inside read is_kind =
-    ∥∥₁_elim one (Bool-set (has_parcel consumer id bus.parcels) true) (λ p.
-    let there = item_there contexts p.0 i item p.1.contexts inside read in
-    let kind : kind_of there.0.task ≡ kinds.Deliver consumer id = ap (λ (x : Item). x.kind) (sym there.1.1) ∙ is_kind in
-    ap is_some (find_parcel bus p.0 i there.0 consumer id p.1.bus there.1.0 kind) ∙ is_there there.0.task consumer id kind)
-
-task_of_parts : (task : Task) (consumer : ConsumerId) (id : MessageId) (message : Message) → kind_of task ≡ kinds.Deliver consumer id →
-    option_map (λ (parcel : Parcel). parcel.message) (parcel_in task) ≡ Some message → task ≡ tasks.Deliver consumer message
-task_of_parts (tasks.Deliver owner own) consumer id message is_kind is_message = cc
 
 -- ## The row
 
--- the delivery at the lane's next place is handed out
-pub takes_delivery : (contexts new_contexts : ContextStore) (bus new_bus : BusStore) (history : List Traced) (at : EntryNo) (pass : PassNo) (lane : Lane) (i : ℕ) (item : Item) (consumer : ConsumerId) (id : MessageId) (message : Message) →
-    StoresStand contexts bus history → IsNext at history → take_refusal history pass lane ≡ None → position (is_ready contexts.held lane) contexts.waiting ≡ Some i →
-    item ≡ get_or contexts.waiting i item → item.kind ≡ kinds.Deliver consumer id →
+-- the task at the lane's next place is handed out
+pub takes_task : (contexts new_contexts : ContextStore) (timers : List Timer) (bus new_bus : BusStore) (history : List Traced) (at : EntryNo) (pass : PassNo) (lane : Lane) (i : ℕ) (item : Item) (task : Task) →
+    StoresStand contexts timers bus history → IsNext at history → take_refusal history pass lane ≡ None → position (is_ready contexts.held lane) contexts.waiting ≡ Some i →
+    item ≡ get_or contexts.waiting i item →
     new_contexts ≡ record contexts { waiting = remove contexts.waiting i; held = contexts.held ++ record { pass = pass; at = at; context = Some item.context } ∷ []; room = new_contexts.room } →
-    option_map (λ (parcel : Parcel). parcel.message) (find (is_parcel consumer id) bus.parcels) ≡ Some message →
-    new_bus ≡ record bus { parcels = without_first (is_parcel consumer id) bus.parcels; room = new_bus.room } →
-    Follows new_contexts new_bus history pass (calls.Take lane) (replies.Task (tasks.Deliver consumer message))
-takes_delivery contexts new_contexts bus new_bus history at pass lane i item consumer id message stands is_next free place read is_kind is_contexts is_message is_bus =
+    find (is_of_kind item.kind) bus.tasks ≡ Some task →
+    new_bus ≡ record bus { tasks = without_first (is_of_kind item.kind) bus.tasks; given = new_bus.given; room = new_bus.room } →
+    ((id : MessageId) → given_at id new_bus.given ≡ option_or (given_at id bus.given) (find (λ (g : Given). same_message id g.id) (given_by_task (Some item.context) task))) →
+    Follows new_contexts timers new_bus history pass (calls.Take lane) (replies.Task task)
+takes_task contexts new_contexts timers bus new_bus history at pass lane i item task stands is_next free place read is_contexts is_task is_bus is_given =
     let inside = (position-Some (is_ready contexts.held lane) contexts.waiting i item place).0 in
     let there = item_there contexts history i item stands.contexts inside read in
     let w = there.0 in
     let waits = there.1.0 in
-    let kind : kind_of w.task ≡ kinds.Deliver consumer id = ap (λ (x : Item). x.kind) (sym there.1.1) ∙ is_kind in
-    let task : w.task ≡ tasks.Deliver consumer message =
-    task_of_parts w.task consumer id message kind (ap (option_map (λ (parcel : Parcel). parcel.message)) (sym (find_parcel bus history i w consumer id stands.bus waits kind)) ∙ is_message) in
+    let kind : kind_of w.task ≡ item.kind = ap (λ (x : Item). x.kind) (sym there.1.1) in
+    let context : w.context ≡ item.context = ap (λ (x : Item). x.context) (sym there.1.1) in
+    let found : Some w.task ≡ Some task = sym (find_task bus history i w item.kind stands.bus waits kind) ∙ is_task in
+    let same : w.task ≡ task = cc in
     let next_there : next history lane ≡ Some w =
     find_from_position _ (waiting history) i w (sym (place_there contexts history lane stands.contexts) ∙ place) ∙ ap Some (waits.read w) in
-    let P : Task → Type 0 = λ t. Follows new_contexts new_bus history pass (calls.Take lane) (replies.Task t) in
-    subst P task (record {
+    let entry = plain_entry pass (calls.Take lane) (replies.Task w.task) in
+    let P : Task → Type 0 = λ t. Follows new_contexts timers new_bus history pass (calls.Take lane) (replies.Task t) in
+    let G : Task → Type 0 = λ t. (id : MessageId) → given_at id new_bus.given ≡ option_or (given_at id bus.given) (find (λ (g : Given). same_message id g.id) (given_by_task (Some item.context) t)) in
+    subst P same (record {
       answered = sym (ap (λ r. unless_refused r (handed_out (next history lane))) free ∙ ap handed_out next_there);
       stores = record {
         contexts = taken_contexts contexts new_contexts history at pass lane i item w stands.contexts is_next waits there.1.1 is_contexts;
-        bus = taken_bus bus new_bus history pass lane i w consumer id stands.bus waits kind is_bus;
+        timers = timers_left timers history entry (record { opened = refl; settled = λ r. refl }) stands.timers;
+        bus = taken_bus bus new_bus history pass lane i w item.kind item.context stands.bus waits kind context is_bus (subst G (sym same) is_given);
       };
     })

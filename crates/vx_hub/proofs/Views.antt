@@ -3,7 +3,7 @@ use Rattle.std.proofs.Common.{◌≡◌, ℕ, ◌+◌, ◌<◌, zero, suc, List,
 use Rattle.std.specs.Prelude.{Bool, true, false, not, cond, nat_lt, Option, Some, None, position, find, remove, map}
 use Rattle.std.specs.List.{filter_map, cons_option, prefix_len, position_or_len}
 use Rattle.std.proofs.lemmas.List.{map-append, take-map, drop-map, length-map}
-use Rattle.vx_hub.specs.Stores.{without_first}
+use Rattle.vx_core_bus.specs.Stores.{without_first}
 
 -- ## A part of each
 

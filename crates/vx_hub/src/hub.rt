@@ -1,33 +1,39 @@
-ghost use Rattle.std.specs.Prelude.{◌≡◌, ◌<◌, List, [], IsTrue, IfOk, IfErr, OnErr};
+ghost use Rattle.std.specs.Prelude.{◌≡◌, ◌<◌, ◌≤◌, ◌^◌, List, [], true, IsTrue, IfOk, IfErr, IsOk, OnErr};
 ghost use Rattle.vx_call.specs.declared.history.Traced.{Traced};
-ghost use Rattle.vx_call.specs.Plain.{is_plain};
-ghost use Rattle.vx_hub.specs.Stands.{StandsFor, StoresStand, Meets, Keeps, Follows, IsNext, finished};
+ghost use Rattle.vx_call.specs.Plain.{is_plain, takes_no_memory};
+ghost use Rattle.vx_context.specs.Stands.{IsNext};
+ghost use Rattle.vx_core_bus.specs.Stands.{HavePlaces, AreOfOneHistory};
+ghost use Rattle.vx_hub.specs.Stands.{StandsFor, PartsStand, PartsFollow, Meets, Keeps, finished};
 
-use crate::bus::Bus;
-use crate::contexts::Contexts;
+use crate::rows::advance::advance;
 use crate::rows::finish::finish;
 use crate::rows::new_context::new_context;
-use crate::rows::register::register;
-use crate::rows::send::send;
+use crate::rows::new_pass::new_pass;
 use crate::rows::take::take;
-use crate::unmade::Unmade;
 use std::alloc::Global;
 use std::marker::Model;
-use vx_call::{Call, End, Lane, Refusal, Reply};
-use vx_data::{EntryNo, PassNo};
+use vx_call::{Call, End, Lane, Refusal, Reply, Unmade};
+use vx_context::Contexts;
+use vx_core_bus::{Bus, step};
+use vx_data::{EntryNo, Moment, PassNo};
+use vx_timer::Timers;
 
 /// How many entries a history has at most.
-const LIMIT: u64 = 1 << 48;
+pub(crate) const LIMIT: u64 = 1 << 48;
 
 /// The machine of one thread. It stands for a history, of which it keeps what the next replies need.
 #[derive(Drop)]
 pub struct Hub {
-    next: u64,
+    pub(crate) next: u64,
+    pub(crate) passes: u64,
+    now: Moment,
     contexts: Contexts,
+    timers: Timers,
     bus: Bus,
 }
 
 impl Model for Hub {
+    ghost use Rattle.vx_core_bus.specs.Stands.{HavePlaces};
     ghost use Rattle.vx_hub.specs.Stores.{HubStore};
     ghost use Rattle.vx_hub.specs.Stands.{IsOfHistory};
 
@@ -38,14 +44,17 @@ impl Model for Hub {
 
     ghost coded = { Prim.hlevel (codes, body.the_row.coded) };
 
-    ghost view = { λ a. record { next = a.next; contexts = a.contexts; bus = a.bus } };
+    ghost view = { λ a. record { next = a.next; passes = a.passes; now = a.now; contexts = a.contexts; timers = a.timers; bus = a.bus } };
 
-    ghost invariant = { λ a. IsOfHistory (record { next = a.next; contexts = a.contexts; bus = a.bus }) };
+    ghost invariant = { λ a. IsOfHistory (record { next = a.next; passes = a.passes; now = a.now; contexts = a.contexts; timers = a.timers; bus = a.bus }) × HavePlaces a.contexts a.bus };
 }
 
 // Makes a plain call, as the entry of this number.
 fn plain_row(
+    passes: &mut u64,
+    now: &mut Moment,
     contexts: &mut Contexts,
+    timers: &mut Timers,
     bus: &mut Bus,
     at: EntryNo,
     pass: PassNo,
@@ -53,26 +62,34 @@ fn plain_row(
 ) -> Result<Reply, Unmade>
     requires small { at.0 < LIMIT }
     requires plain { IsTrue (is_plain call) }
-    ensures ok { IfOk result (λ reply. (history : List Traced) → StoresStand contexts.old bus.old history → IsNext at history → Follows contexts.new bus.new history pass call reply) }
-    ensures err { OnErr result ((history : List Traced) → StoresStand contexts.old bus.old history → StoresStand contexts.new bus.new history) }
+    requires one { AreOfOneHistory contexts.old timers.old bus.old }
+    requires places { HavePlaces contexts.old bus.old }
+    ensures ok { IfOk result (λ reply. (history : List Traced) → PartsStand passes.old now.old contexts.old timers.old bus.old history → IsNext at history → PartsFollow passes.new now.new contexts.new timers.new bus.new history pass call reply) }
+    ensures err { OnErr result ((history : List Traced) → PartsStand passes.old now.old contexts.old timers.old bus.old history → PartsStand passes.new now.new contexts.new timers.new bus.new history) }
     ensures back { IfErr result (λ unmade. unmade.call ≡ call) }
+    ensures sure { takes_no_memory call ≡ true → IsOk result }
+    ensures places { HavePlaces contexts.new bus.new }
 {
+    let moment = now.ms();
     match call {
+        Call::NewPass => Ok(Reply::Pass(new_pass(passes))),
         Call::NewContext => new_context(contexts, at, pass),
-        Call::Register { context, address } => register(contexts, bus, at, context, address),
-        Call::Send { address, body } => send(contexts, bus, at, address, body),
-        Call::Take(_) | Call::Finish(_) => unreachable!(),
+        Call::Advance(moment) => Ok(advance(contexts, timers, bus, now, at, moment)),
+        _ => step(contexts, timers, bus, at, moment, pass, call),
     }
 }
 
 impl Hub {
-    /// A hub that stands for the empty history, in which pass 0 is there.
+    /// A hub that stands for the empty history, in which pass 0 is there. It takes no memory.
     pub fn new(alloc: Global) -> Hub
         ensures empty { StandsFor result [] }
     {
         Hub {
             next: 0,
+            passes: 1,
+            now: Moment::at(0),
             contexts: Contexts::new(alloc),
+            timers: Timers::new(alloc),
             bus: Bus::new(alloc),
         }
     }
@@ -86,12 +103,16 @@ impl Hub {
         ensures answered_as_the_machine { IfOk result (λ reply. Meets self.old self.new pass call reply) }
         ensures without_memory_as_before { OnErr result (Keeps self.old self.new) }
         ensures call_comes_back { IfErr result (λ unmade. unmade.call ≡ call) }
+        ensures takes_no_memory { takes_no_memory call ≡ true → IsOk result }
     {
         if self.next >= LIMIT {
             return Ok(Reply::Refused(Refusal::Spent));
         }
         let reply = plain_row(
+            &mut self.passes,
+            &mut self.now,
             &mut self.contexts,
+            &mut self.timers,
             &mut self.bus,
             EntryNo(self.next),
             pass,
@@ -111,6 +132,7 @@ impl Hub {
         }
         let reply = take(
             &mut self.contexts,
+            &self.timers,
             &mut self.bus,
             EntryNo(self.next),
             pass,

@@ -1,7 +1,7 @@
-//! What each call does where the history is not spent: a file a call.
+//! What the calls do that are not the bus's, where the history is not spent: a file a call.
 
+pub mod advance;
 pub mod finish;
 pub mod new_context;
-pub mod register;
-pub mod send;
+pub mod new_pass;
 pub mod take;

@@ -1,7 +1,6 @@
 use crate::Hub;
-use std::test::Fail;
-use vx_call::{Call, End, Lane, Refusal, Reply, Task, To};
-use vx_data::{Body, ContextId, EntryNo, NoMemory, PassNo, Text};
+use vx_call::{Call, End, Lane, Reply, Task, To};
+use vx_data::{Body, ConsumerId, ContextId, EntryNo, MessageId, PassNo, Text};
 
 const PASS: PassNo = PassNo(0);
 
@@ -10,42 +9,91 @@ const CONTEXT: ContextId = ContextId {
     instance: 0,
 };
 
-// The entry that the thing in a reply is named after.
-fn told(reply: &Reply) -> Option<u64> {
-    match reply {
-        Reply::Context(context) => Some(context.entry.0),
-        Reply::Consumer(consumer) => Some(consumer.0.0),
-        Reply::Sent(To::Consumer(consumer)) => Some(consumer.0.0),
-        Reply::Task(
-            Task::Deliver {
-                consumer: _,
-                message,
-            },
-        ) => Some(message.id.0.0),
+// What the call reached: the consumer that it registered, the first of those that got a publish, and nobody where it
+// made a context.
+fn reached(hub: &mut Hub, call: Call) -> Option<To> {
+    if !call.plain() {
+        return None;
+    }
+    match hub.step(PASS, call) {
+        Ok(Reply::Context(_)) => Some(To::None),
+        Ok(Reply::Consumer(consumer)) => Some(To::Consumer(consumer)),
+        Ok(Reply::Sent(to)) => Some(to),
+        Ok(Reply::Asked(to)) => Some(to),
+        Ok(Reply::Published(consumers)) => match consumers.items() {
+            [consumer, ..] => Some(To::Consumer(*consumer)),
+            [] => Some(To::None),
+        },
         _ => None,
     }
 }
 
-#[test]
-fn a_message_goes_to_its_consumer(rt: HostRuntime) -> Result<(), Fail> {
-    let alloc = rt.alloc();
-    let mut hub = Hub::new(alloc);
-    let made = hub.step(PASS, Call::NewContext).map_err(|_| NoMemory)?;
-    assert_eq!(rt; told(&made), Some(0));
-    let register = Call::Register {
+// The message of the next task, or the request that has ended.
+fn taken(hub: &mut Hub) -> Option<MessageId> {
+    match hub.take(PASS, Lane::Own(CONTEXT)) {
+        Reply::Task(Task::Deliver { message, .. }) => Some(message.id),
+        Reply::Task(Task::Outcome { request, .. }) => Some(request),
+        _ => None,
+    }
+}
+
+fn register() -> Call {
+    Call::Register {
         context: CONTEXT,
-        address: Text::new(alloc, b"news")?,
-    };
-    let registered = hub.step(PASS, register).map_err(|_| NoMemory)?;
-    assert_eq!(rt; told(&registered), Some(1));
-    let send = Call::Send {
-        address: Text::new(alloc, b"news")?,
+        address: Text::constant("news"),
+    }
+}
+
+fn request() -> Call {
+    Call::Request {
+        context: CONTEXT,
+        address: Text::constant("news"),
         body: Body::int(7),
-    };
-    let sent = hub.step(PASS, send).map_err(|_| NoMemory)?;
-    assert_eq!(rt; told(&sent), Some(1));
-    assert_eq!(rt; told(&hub.take(PASS, Lane::Own(CONTEXT))), Some(2));
-    assert_eq!(rt; hub.finish(PASS, End::Done), Ok(()));
-    assert_eq!(rt; hub.finish(PASS, End::Done), Err(Refusal::NotHolding));
-    Ok(())
+        timeout: 1,
+    }
+}
+
+fn reply_request() -> Call {
+    Call::ReplyRequest {
+        message: MessageId(EntryNo(2)),
+        context: CONTEXT,
+        body: Body::int(8),
+        timeout: 1,
+    }
+}
+
+fn send() -> Call {
+    Call::Send {
+        address: Text::constant("news"),
+        body: Body::int(9),
+    }
+}
+
+fn publish() -> Call {
+    Call::Publish {
+        address: Text::constant("news"),
+        body: Body::int(10),
+    }
+}
+
+#[test]
+fn each_call_is_answered(rt: HostRuntime) {
+    let mut hub = Hub::new(rt.alloc());
+    let made = reached(&mut hub, Call::NewContext);
+    let registered = reached(&mut hub, register());
+    let asked = reached(&mut hub, request());
+    let message = taken(&mut hub);
+    let asked_again = reached(&mut hub, reply_request());
+    let finished = hub.finish(PASS, End::Done);
+    let ended = taken(&mut hub);
+    let sent = reached(&mut hub, send());
+    let published = reached(&mut hub, publish());
+
+    let consumer = Some(To::Consumer(ConsumerId(EntryNo(1))));
+    let request = Some(MessageId(EntryNo(2)));
+    assert_eq!(rt; made, Some(To::None));
+    assert_eq!(rt; [registered, asked, sent, published], [consumer; 4]);
+    assert_eq!(rt; asked_again, Some(To::Asker));
+    assert_eq!(rt; finished, Ok(()));
+    assert_eq!(rt; [message, ended], [request; 2]);
 }

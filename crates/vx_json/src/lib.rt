@@ -17,4 +17,4 @@ mod write;
 
 pub use fault::JsonFault;
 pub use read::read_body;
-pub use write::write_body;
+pub use write::{write_body, write_text};

@@ -9,6 +9,54 @@ pub struct Message {
     pub id: MessageId,
     pub address: Text,
     pub body: Body,
+    /// Whether its sender waits for a reply.
+    pub request: bool,
+    /// Whether it was published, to all consumers at its address.
+    pub publish: bool,
+}
+
+/// How a request failed. (Vert.x core API, `ReplyFailure`.)
+#[derive(Clone, Copy, Debug, PartialEq, Eq)]
+pub enum FailureKind {
+    /// Its time was up before a reply came.
+    Timeout,
+    /// Nobody was there who could reply, or the one who could is gone.
+    NoHandlers,
+    /// Its receiver failed it.
+    RecipientFailure,
+}
+
+/// The failure of a request. (Vert.x core API, `ReplyException`.)
+#[derive(Debug, Drop)]
+pub struct Failure {
+    pub kind: FailureKind,
+    pub code: i32,
+    pub text: Text,
+}
+
+/// How a request ended. (Vert.x core manual, "Acknowledging messages / sending replies".)
+#[derive(Debug, Drop)]
+pub enum Outcome {
+    /// A reply. Where `again` names a message, the asker may reply to it in its turn.
+    Ok {
+        body: Body,
+        again: Option<MessageId>,
+    },
+    Failed(Failure),
+}
+
+/// Whom a thing belongs to.
+#[derive(Clone, Copy, Debug, PartialEq, Eq)]
+pub enum Owner {
+    Pass(PassNo),
+    Context(ContextId),
+}
+
+/// A context that a pass made. Its tasks are taken by that pass alone.
+#[derive(Clone, Copy, Debug, PartialEq, Eq)]
+pub struct OutsideContext {
+    pub id: ContextId,
+    pub maker: PassNo,
 }
 
 /// Where a task is taken from.
@@ -21,7 +69,10 @@ pub enum Lane {
 /// What kind of task an item is, by ids alone: who made the item keeps the rest of its task.
 #[derive(Clone, Copy, Debug, PartialEq, Eq)]
 pub enum ItemKind {
+    /// A message for a consumer.
     Deliver(ConsumerId, MessageId),
+    /// The outcome of a request.
+    Outcome(MessageId),
 }
 
 /// A task that waits for a context: the entry that made it ready, and its place among the items of that entry.
@@ -39,4 +90,12 @@ pub struct Held {
     pub pass: PassNo,
     pub at: EntryNo,
     pub context: Option<ContextId>,
+}
+
+/// A message that a Take gave out: the context whose handler got it, and whether its sender waits for a reply.
+#[derive(Clone, Copy, Debug, PartialEq, Eq)]
+pub struct Given {
+    pub id: MessageId,
+    pub receiver: Option<ContextId>,
+    pub request: bool,
 }

@@ -1,5 +1,5 @@
 -- The first line of a script, and the calls of its lines.
-use Rattle.std.proofs.Common.{◌≡◌, ℕ, ◌+◌, ◌-◌, ◌<◌, ◌≤◌, List, [], ◌∷◌, ◌++◌, length, take, drop, Bool, true, false, cond, ◌==◌, rules, arith, refl, sym, ◌∙◌, ap, tests, append_assoc, Option, Result, Ok, Err, subst, length-drop}
+use Rattle.std.proofs.Common.{◌≡◌, ℕ, ◌+◌, ◌-◌, ◌<◌, ◌≤◌, List, [], ◌∷◌, ◌++◌, length, take, drop, Bool, true, false, cond, ◌==◌, rules, arith, refl, sym, ◌∙◌, ap, tests, append_assoc, Result, Ok, Err, subst, length-drop}
 use Rattle.std.specs.List.{slice_split, onto_first, position_or_len, All}
 use Rattle.std.specs.Option.{option_to_list}
 use Rattle.std.specs.Str.Lines.{lines, strip_carriage_return}
@@ -7,12 +7,11 @@ use Rattle.std.proofs.lemmas.List.{nil_from_length, append-nil, take_rest, drop-
 use Rattle.std.proofs.Math.Seq.{take-length}
 use Rattle.std.proofs.lemmas.List.Sums.{fails_before_first, prefix_len-le-length}
 use Rattle.std.proofs.lemmas.List.Splits.{slice_split_first, slice_split_none}
-use Rattle.vx_call.specs.declared.call.Call.{Call}
-use Rattle.vx_script.specs.declared.fault.LineWhy.{LineWhy}
+use Rattle.vx_script.specs.declared.command.Command.{Command}
 use Rattle.vx_script.specs.declared.fault.LineFault.{LineFault}
 use Rattle.vx_script.specs.declared.fault.LineFault.TheVariants as faults
-use Rattle.vx_script.specs.Reading.{line_at, Fails}
-use Rattle.vx_script.specs.Lines.{Bad, with_front, with_line, calls_from, calls_of, Adds, numbered, ScriptFails}
+use Rattle.vx_script.specs.Reading.{said_at, Fails}
+use Rattle.vx_script.specs.Lines.{Bad, passes_after, with_front, commands_from, commands_of, Adds, numbered, ScriptFails}
 
 abbrev pub newline : ℕ → Bool
 newline b = b == 10
@@ -62,41 +61,35 @@ cut_first bs n front back line e f g s some =
     rw (d, s, f) (cut_found bs n e k)
 
 -- the steps of reading a script
-front_twice : (xs ys : List Call) (r : Result (List Call) Bad) → with_front xs (with_front ys r) ≡ with_front (xs ++ ys) r
+front_twice : (xs ys : List Command) (r : Result (List Command) Bad) → with_front xs (with_front ys r) ≡ with_front (xs ++ ys) r
 front_twice xs ys (Ok zs) = ap Ok (sym (append_assoc xs ys zs))
 front_twice xs ys (Err e) = refl
 
-adds : (n : ℕ) (made : Result (Option Call) LineWhy) (calls new : List Call) (more all : Result (List Call) Bad) →
-    with_front calls (with_line n made more) ≡ all → Adds made calls new → with_front new more ≡ all
-adds n (Err why) calls new more all h a = absurd a
-adds n (Ok said) calls new more all h a = rw a (sym (front_twice calls (option_to_list said) more) ∙ h)
-
 -- one line, the rest of which is told as before
-pub step : (calls new : List Call) (n : ℕ) (rest line after : List ℕ) (all : Result (List Call) Bad) →
-    with_front calls (calls_from (n + 1) (lines rest)) ≡ all → lines rest ≡ line ∷ lines after → Adds (line_at line) calls new →
-    with_front new (calls_from (n + 1 + 1) (lines after)) ≡ all
-unfolding calls_from
-step calls new n rest line after all h cut a = adds (n + 1) (line_at line) calls new (calls_from (n + 1 + 1) (lines after)) all (rw cut at h) a
-
-bad : (n : ℕ) (made : Result (Option Call) LineWhy) (calls : List Call) (more all : Result (List Call) Bad) (e : LineFault) →
-    with_front calls (with_line n made more) ≡ all → Fails e made → ScriptFails (numbered n e) all
-bad n made calls more all faults.NoMemory h f = tt
-bad n made calls more all (faults.Bad why) h f = sym h ∙ ap (λ m. with_front calls (with_line n m more)) f
+pub step : (commands new : List Command) (passes after n : ℕ) (rest line back : List ℕ) (all : Result (List Command) Bad) →
+    with_front commands (commands_from passes (n + 1) (lines rest)) ≡ all → lines rest ≡ line ∷ lines back → Adds (said_at passes line) commands new passes after →
+    with_front new (commands_from after (n + 1 + 1) (lines back)) ≡ all
+unfolding commands_from
+step commands new passes after n rest line back all h cut a =
+    let more = commands_from (passes_after passes a.what) (n + 1 + 1) (lines back) in
+    let told : with_front commands (with_front (option_to_list a.what) more) ≡ all = rw a.is at (rw cut at h) in
+    rw (a.added, a.passes) (sym (front_twice commands (option_to_list a.what) more) ∙ told)
 
 -- the first line in no form
-pub step_bad : (calls : List Call) (n : ℕ) (rest line after : List ℕ) (all : Result (List Call) Bad) (e : LineFault) →
-    with_front calls (calls_from (n + 1) (lines rest)) ≡ all → lines rest ≡ line ∷ lines after → Fails e (line_at line) → ScriptFails (numbered (n + 1) e) all
-unfolding calls_from
-step_bad calls n rest line after all e h cut f = bad (n + 1) (line_at line) calls (calls_from (n + 1 + 1) (lines after)) all e (rw cut at h) f
+pub step_bad : (commands : List Command) (passes n : ℕ) (rest line back : List ℕ) (all : Result (List Command) Bad) (e : LineFault) →
+    with_front commands (commands_from passes (n + 1) (lines rest)) ≡ all → lines rest ≡ line ∷ lines back → Fails e (said_at passes line) → ScriptFails (numbered (n + 1) passes line e) all
+unfolding commands_from
+step_bad commands passes n rest line back all faults.NoMemory h cut f = tt
+step_bad commands passes n rest line back all faults.Misfit h cut f = sym (rw f at (rw cut at h))
 
-pub ends : (calls : List Call) (n : ℕ) (rest : List ℕ) (all : Result (List Call) Bad) → with_front calls (calls_from (n + 1) (lines rest)) ≡ all → length rest ≡ 0 → all ≡ Ok calls
-unfolding calls_from
-ends calls n rest all h e = let k : rest ≡ [] = nil_from_length rest e in sym (rw k at h) ∙ ap Ok (append-nil calls)
+pub ends : (commands : List Command) (passes n : ℕ) (rest : List ℕ) (all : Result (List Command) Bad) → with_front commands (commands_from passes (n + 1) (lines rest)) ≡ all → length rest ≡ 0 → all ≡ Ok commands
+unfolding commands_from
+ends commands passes n rest all h e = let k : rest ≡ [] = nil_from_length rest e in sym (rw k at h) ∙ ap Ok (append-nil commands)
 
-pub begins : (bytes : List ℕ) (calls : List Call) → calls ≡ [] → with_front calls (calls_from (0 + 1) (lines bytes)) ≡ calls_of bytes
-unfolding calls_of
-begins bytes calls e = rw e (same (calls_from 1 (lines bytes)))
+pub begins : (bytes : List ℕ) (commands : List Command) → commands ≡ [] → with_front commands (commands_from 1 (0 + 1) (lines bytes)) ≡ commands_of bytes
+unfolding commands_of
+begins bytes commands e = rw e (same (commands_from 1 1 (lines bytes)))
   where
-    same : (r : Result (List Call) Bad) → with_front [] r ≡ r
+    same : (r : Result (List Command) Bad) → with_front [] r ≡ r
     same (Ok cs) = refl
     same (Err b) = refl

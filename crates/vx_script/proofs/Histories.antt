@@ -1,7 +1,7 @@
 -- The text of a history, and of one that goes on.
-use Rattle.std.proofs.Common.{◌≡◌, ℕ, ◌+◌, ◌^◌, ◌<◌, suc, List, [], ◌∷◌, ◌++◌, length, length-append, refl, sym, ◌∙◌, ap, arith, tests, append_assoc, Option, subst, Bool, true, false, cond}
+use Rattle.std.proofs.Common.{◌≡◌, ℕ, ◌+◌, ◌^◌, ◌<◌, suc, List, [], ◌∷◌, ◌++◌, length, length-append, refl, sym, ◌∙◌, ap, arith, append_assoc, Option, subst, Bool, true, false, cond}
 use Rattle.std.specs.Io.KnownBytes.{Appends}
-use Rattle.std.proofs.KnownBytes.{Appends-trans}
+use Rattle.std.proofs.KnownBytes.{Appends-nil, Appends-trans}
 use Rattle.std.proofs.lemmas.List.{append-nil}
 use Rattle.vx_data.specs.declared.ids.PassNo.{PassNo}
 use Rattle.vx_call.specs.declared.call.Call.{Call}
@@ -10,18 +10,23 @@ use Rattle.vx_call.specs.declared.history.Traced.{Traced}
 use Rattle.vx_call.specs.History.{plain_entry}
 use Rattle.vx_call.specs.Refusals.{is_spent}
 use Rattle.vx_call.specs.Machine.{answer}
-use Rattle.vx_call.specs.Runs.{played, history_after}
+use Rattle.vx_call.specs.Passes.{passes}
+use Rattle.vx_call.specs.Runs.{played}
 use Rattle.vx_io.specs.Writing.{Begins, AppendsFront}
 use Rattle.vx_script.specs.Replies.{reply_line, text_from, text}
-use Rattle.vx_script.specs.Playing.{first_pass, history_of}
+use Rattle.vx_script.specs.declared.command.Command.{Command}
+use Rattle.vx_script.specs.Lines.{AreThere}
+use Rattle.vx_script.specs.Playing.{history_from, history_of}
+use Rattle.vx_script.proofs.Counts.{not_spent, passes_more, passes_none}
 
 -- A hub stands for a history from which the rest of all calls goes on, and the text of that history was written.
-pub record Goes (Stands : List Traced → Type 0) (held held' : Option (List ℕ)) (at : ℕ) (rest all : List Call) : Type 0 where
+pub record Goes (Stands : List Traced → Type 0) (held held' : Option (List ℕ)) (at : ℕ) (rest all : List Command) : Type 0 where
   pub history : List Traced
   pub stands : Stands history
-  pub goes_on : history_after history first_pass rest ≡ history_of all
+  pub goes_on : history_from history rest ≡ history_of all
   pub written : Appends held held' (text history)
   pub count : at ≡ length history
+  pub there : AreThere (passes history) rest
 
 text_from_push : (n : ℕ) (h : List Traced) (e : Traced) → text_from n (h ++ e ∷ []) ≡ text_from n h ++ reply_line (record { 0 = n + length h }) e.entry.reply
 text_from_push n [] e = let k : n + 0 ≡ n = omega arith in rw (k, append-nil) refl
@@ -45,59 +50,64 @@ text_extended all h pass call reply true p = p
 text_extended all h pass call reply false p =
     begins_front all (text h) (reply_line (record { 0 = length h }) reply) (subst (Begins all) (text_push h (plain_entry pass call reply)) p)
 
-pub text_begins : (h : List Traced) (cs : List Call) → Begins (text (history_after h first_pass cs)) (text h)
+pub text_begins : (h : List Traced) (cs : List Command) → Begins (text (history_from h cs)) (text h)
 text_begins h [] = begins_same (text h)
 text_begins h (c ∷ cs) =
-    text_extended (text (history_after h first_pass (c ∷ cs))) h first_pass c (answer h first_pass c) (is_spent h) (text_begins (played h first_pass c) cs)
+    text_extended (text (history_from h (c ∷ cs))) h c.pass c.call (answer h c.pass c.call) (is_spent h) (text_begins (played h c.pass c.call) cs)
 
 -- below its limit a history goes on
-not_spent : (h : List Traced) → length h < 2 ^ 48 → is_spent h ≡ false
-not_spent h few = grind (arith, tests)
+pub played_more : (h : List Traced) (pass : PassNo) (call : Call) → length h < 2 ^ 48 → played h pass call ≡ h ++ plain_entry pass call (answer h pass call) ∷ []
+played_more h pass call few = ap (λ spent. cond spent h (h ++ plain_entry pass call (answer h pass call) ∷ [])) (not_spent h few)
 
-pub played_more : (h : List Traced) (c : Call) → length h < 2 ^ 48 → played h first_pass c ≡ h ++ plain_entry first_pass c (answer h first_pass c) ∷ []
-played_more h c few = ap (λ spent. cond spent h (h ++ plain_entry first_pass c (answer h first_pass c) ∷ [])) (not_spent h few)
-
-pub played_text : (h : List Traced) (c : Call) → length h < 2 ^ 48 → text (played h first_pass c) ≡ text h ++ reply_line (record { 0 = length h }) (answer h first_pass c)
-played_text h c few = ap text (played_more h c few) ∙ text_push h (plain_entry first_pass c (answer h first_pass c))
+pub played_text : (h : List Traced) (pass : PassNo) (call : Call) → length h < 2 ^ 48 → text (played h pass call) ≡ text h ++ reply_line (record { 0 = length h }) (answer h pass call)
+played_text h pass call few = ap text (played_more h pass call few) ∙ text_push h (plain_entry pass call (answer h pass call))
 
 begins_inner : (all a line front : List ℕ) → Begins all (a ++ line) → Begins line front → Begins all (a ++ front)
 begins_inner all a line front p q =
     (q.0 ++ p.0, p.1 ∙ ap (λ t. (a ++ t) ++ p.0) q.1 ∙ ap (λ t. t ++ p.0) (sym (append_assoc a front q.0)) ∙ append_assoc (a ++ front) q.0 p.0)
 
 -- A front of one more line is written: a front of the whole text.
-pub cut_off : (Stands : List Traced → Type 0) (a b c : Option (List ℕ)) (at : ℕ) (call : Call) (rest all : List Call) (g : Goes Stands a b at (call ∷ rest) all) → at < 2 ^ 48 →
-    AppendsFront b c (reply_line (record { 0 = at }) (answer g.history first_pass call)) → AppendsFront a c (text (history_of all))
-cut_off Stands a b c at call rest all g few f =
+pub cut_off : (Stands : List Traced → Type 0) (a b c : Option (List ℕ)) (at : ℕ) (command : Command) (rest all : List Command) (g : Goes Stands a b at (command ∷ rest) all) → at < 2 ^ 48 →
+    AppendsFront b c (reply_line (record { 0 = at }) (answer g.history command.pass command.call)) → AppendsFront a c (text (history_of all))
+cut_off Stands a b c at command rest all g few f =
     let h = g.history in
     let whole = text (history_of all) in
-    let line = reply_line (record { 0 = length h }) (answer h first_pass call) in
+    let line = reply_line (record { 0 = length h }) (answer h command.pass command.call) in
     let small : length h < 2 ^ 48 = omega (arith, g.count) in
-    let one : Begins (text (history_after h first_pass (call ∷ rest))) (text h ++ line) =
-    subst (Begins (text (history_after h first_pass (call ∷ rest)))) (played_text h call small) (text_begins (played h first_pass call) rest) in
+    let one : Begins (text (history_from h (command ∷ rest))) (text h ++ line) =
+    subst (Begins (text (history_from h (command ∷ rest)))) (played_text h command.pass command.call small) (text_begins (played h command.pass command.call) rest) in
     let p : Begins whole (text h ++ line) = subst (λ (v : List Traced). Begins (text v) (text h ++ line)) g.goes_on one in
-    let q : Begins line f.0 = subst (λ (v : ℕ). Begins (reply_line (record { 0 = v }) (answer h first_pass call)) f.0) g.count f.1 in
+    let q : Begins line f.0 = subst (λ (v : ℕ). Begins (reply_line (record { 0 = v }) (answer h command.pass command.call)) f.0) g.count f.1 in
     (text h ++ f.0, begins_inner whole (text h) line f.0 p q, Appends-trans a b c (text h) f.0 g.written f.2)
 
 -- One more line is written.
-pub one_more : (Stands Stands' : List Traced → Type 0) (a b c : Option (List ℕ)) (at : ℕ) (call : Call) (rest all : List Call) (g : Goes Stands a b at (call ∷ rest) all) → at < 2 ^ 48 →
-    Stands' (played g.history first_pass call) → Appends b c (reply_line (record { 0 = at }) (answer g.history first_pass call)) → Goes Stands' a c (at + 1) rest all
-one_more Stands Stands' a b c at call rest all g few stands f =
+pub one_more : (Stands Stands' : List Traced → Type 0) (a b c : Option (List ℕ)) (at : ℕ) (command : Command) (rest all : List Command) (g : Goes Stands a b at (command ∷ rest) all) → at < 2 ^ 48 →
+    Stands' (played g.history command.pass command.call) → Appends b c (reply_line (record { 0 = at }) (answer g.history command.pass command.call)) → Goes Stands' a c (at + 1) rest all
+one_more Stands Stands' a b c at command rest all g few stands f =
     let h = g.history in
     let small : length h < 2 ^ 48 = omega (arith, g.count) in
-    let line : Appends b c (reply_line (record { 0 = length h }) (answer h first_pass call)) = subst (λ (v : ℕ). Appends b c (reply_line (record { 0 = v }) (answer h first_pass call))) g.count f in
+    let line : Appends b c (reply_line (record { 0 = length h }) (answer h command.pass command.call)) = subst (λ (v : ℕ). Appends b c (reply_line (record { 0 = v }) (answer h command.pass command.call))) g.count f in
     record {
-      history = played h first_pass call;
+      history = played h command.pass command.call;
       stands = stands;
       goes_on = g.goes_on;
-      written = rw (played_text h call small) (Appends-trans a b c (text h) (reply_line (record { 0 = length h }) (answer h first_pass call)) g.written line);
-      count = omega (arith, g.count, ap length (played_more h call small), length-append h (plain_entry first_pass call (answer h first_pass call) ∷ []));
+      written = rw (played_text h command.pass command.call small) (Appends-trans a b c (text h) (reply_line (record { 0 = length h }) (answer h command.pass command.call)) g.written line);
+      there = subst (λ (v : ℕ). AreThere v rest) (sym (ap passes (played_more h command.pass command.call small) ∙ passes_more h command.pass command.call small)) g.there.1;
+      count = omega (arith, g.count, ap length (played_more h command.pass command.call small), length-append h (plain_entry command.pass command.call (answer h command.pass command.call) ∷ []));
     }
 
 -- Nothing is left: all is written.
-pub all_made : (Stands : List Traced → Type 0) (a b : Option (List ℕ)) (at : ℕ) (rest all : List Call) → Goes Stands a b at rest all → rest ≡ [] → Appends a b (text (history_of all))
+pub all_made : (Stands : List Traced → Type 0) (a b : Option (List ℕ)) (at : ℕ) (rest all : List Command) → Goes Stands a b at rest all → rest ≡ [] → Appends a b (text (history_of all))
 all_made Stands a b at rest all g e =
-    let done : g.history ≡ history_of all = ap (λ (v : List Call). history_after g.history first_pass v) (sym e) ∙ g.goes_on in
+    let done : g.history ≡ history_of all = ap (λ (v : List Command). history_from g.history v) (sym e) ∙ g.goes_on in
     subst (λ (v : List Traced). Appends a b (text v)) done g.written
 
-pub begins_all : (Stands : List Traced → Type 0) (a : Option (List ℕ)) (all : List Call) → Stands [] → Appends a a [] → Goes Stands a a 0 all all
-begins_all Stands a all stands none = record { history = []; stands = stands; goes_on = refl; written = none; count = refl }
+pub begins_all : (Stands : List Traced → Type 0) (a : Option (List ℕ)) (rest all : List Command) → Stands [] → rest ≡ all → AreThere 1 all → Goes Stands a a 0 rest all
+begins_all Stands a rest all stands same there = record {
+  history = [];
+  stands = stands;
+  goes_on = ap history_of same;
+  written = Appends-nil a;
+  count = refl;
+  there = rw same (subst (λ (v : ℕ). AreThere v all) (sym passes_none) there);
+}

@@ -18,7 +18,7 @@ utf8_test bs (Err e) h = by_test (is_utf8 bs) (λ yes. h.0 (IsUtf8-from_is_utf8 
     by_test false never = refl
 
 -- a test that holds of no byte above ASCII
-ascii_at : (p : ℕ → Bool) → ((b : ℕ) → p b ≡ true → b < 128) → (bs : List ℕ) → list_all p bs ≡ true → (i : ℕ) → slice_index bs i < 128
+pub ascii_at : (p : ℕ → Bool) → ((b : ℕ) → p b ≡ true → b < 128) → (bs : List ℕ) → list_all p bs ≡ true → (i : ℕ) → slice_index bs i < 128
 ascii_at p low [] h i = omega arith
 ascii_at p low (b ∷ bs) h zero = low b (and_parts (p b) (list_all p bs) h).0
 ascii_at p low (b ∷ bs) h (suc i) = ascii_at p low bs (and_parts (p b) (list_all p bs) h).1 i

@@ -1,5 +1,6 @@
 pub mod Grammar
 pub mod Reading
+pub mod Reasons
 pub mod Lines
 pub mod Replies
 pub mod Statuses

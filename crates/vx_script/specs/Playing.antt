@@ -1,12 +1,13 @@
--- The history of a script: the first pass makes the calls of its lines, each answered by the machine.
-use Rattle.std.specs.Prelude.{List, []}
-use Rattle.vx_data.specs.declared.ids.PassNo.{PassNo}
-use Rattle.vx_call.specs.declared.call.Call.{Call}
+-- The history of a script: passes make the calls of its lines, each answered by the machine.
+use Rattle.std.specs.Prelude.{List, [], ◌∷◌}
 use Rattle.vx_call.specs.declared.history.Traced.{Traced}
-use Rattle.vx_call.specs.Runs.{history_after}
+use Rattle.vx_call.specs.Runs.{played}
+use Rattle.vx_script.specs.declared.command.Command.{Command}
 
-abbrev pub first_pass : PassNo
-first_pass = record { 0 = 0 }
+-- the history after calls of passes, each with the machine's reply
+abbrev pub history_from : List Traced → List Command → List Traced
+history_from history [] = history
+history_from history (command ∷ commands) = history_from (played history command.pass command.call) commands
 
-abbrev pub history_of : List Call → List Traced
-history_of calls = history_after [] first_pass calls
+abbrev pub history_of : List Command → List Traced
+history_of commands = history_from [] commands

@@ -1,9 +1,17 @@
 -- The text of replies. It is this project's own.
-use Rattle.std.specs.Prelude.{ℕ, ◌+◌, ◌==◌, List, [], ◌∷◌, ◌++◌, codes, if◌then◌else◌}
-use Rattle.std.specs.Fmt.{decimal}
+use Rattle.std.specs.Prelude.{ℕ, ◌+◌, ◌==◌, ℤ, List, [], ◌∷◌, ◌++◌, flat_map, codes, if◌then◌else◌, Some, None}
+use Rattle.std.specs.Fmt.{decimal, signed_decimal}
 use Rattle.vx_data.specs.declared.ids.EntryNo.{EntryNo}
 use Rattle.vx_data.specs.declared.ids.ContextId.{ContextId}
-use Rattle.vx_data.specs.BodyText.{body_text}
+use Rattle.vx_data.specs.declared.ids.ConsumerId.{ConsumerId}
+use Rattle.vx_data.specs.BodyText.{body_text, quoted}
+use Rattle.vx_message.specs.declared.Message.{Message}
+use Rattle.vx_message.specs.declared.Owner.{Owner}
+use Rattle.vx_message.specs.declared.Owner.TheVariants as owners
+use Rattle.vx_message.specs.declared.FailureKind.{FailureKind}
+use Rattle.vx_message.specs.declared.FailureKind.TheVariants as failures
+use Rattle.vx_message.specs.declared.Outcome.{Outcome}
+use Rattle.vx_message.specs.declared.Outcome.TheVariants as outcomes
 use Rattle.vx_call.specs.declared.reply.Reply.{Reply}
 use Rattle.vx_call.specs.declared.reply.Reply.TheVariants as replies
 use Rattle.vx_call.specs.declared.reply.To.{To}
@@ -18,30 +26,76 @@ use Rattle.vx_call.specs.declared.history.Traced.{Traced}
 abbrev pub context_text : ContextId → List ℕ
 context_text context = if context.instance == 0 then decimal context.entry.0 else decimal context.entry.0 ++ (codes "." ++ decimal context.instance)
 
+abbrev pub owner_text : Owner → List ℕ
+owner_text (owners.Pass pass) = codes "pass " ++ decimal pass.0
+owner_text (owners.Context context) = codes "context " ++ context_text context
+
 abbrev pub refusal_text : Refusal → List ℕ
 refusal_text refusals.NoContext = codes "refused 1 no context"
+refusal_text refusals.NoConsumer = codes "refused 3 no consumer"
+refusal_text (refusals.NotYours owner) = codes "refused 4 not yours " ++ owner_text owner
 refusal_text refusals.NotHolding = codes "refused 5 not holding"
 refusal_text (refusals.Holding entry) = codes "refused 6 holding " ++ decimal entry.0
 refusal_text refusals.NoLane = codes "refused 8 no lane"
 refusal_text refusals.BadAddress = codes "refused 9 bad address"
+refusal_text (refusals.TooLarge limit) = codes "refused 10 too large " ++ decimal limit
+refusal_text refusals.NoMessage = codes "refused 11 no message"
+refusal_text refusals.NotRequest = codes "refused 12 not request"
+refusal_text (refusals.Late entry) = codes "refused 13 late " ++ decimal entry.0
+refusal_text refusals.BadDelay = codes "refused 17 bad delay"
 refusal_text refusals.Spent = codes "refused 30 spent"
 
--- what the message of this entry reached
-abbrev pub sent_text : EntryNo → To → List ℕ
-sent_text at reached.None = codes "sent " ++ (decimal at.0 ++ codes " to none")
-sent_text at (reached.Consumer consumer) = codes "sent " ++ (decimal at.0 ++ (codes " to " ++ decimal consumer.0.0))
+-- what a message reached
+abbrev pub to_text : To → List ℕ
+to_text reached.None = codes "none"
+to_text (reached.Consumer consumer) = decimal consumer.0.0
+to_text reached.Asker = codes "asker"
+
+-- what was done with the message of this entry, and what it reached
+abbrev pub message_text : List ℕ → EntryNo → To → List ℕ
+message_text verb at to = verb ++ (codes " " ++ (decimal at.0 ++ (codes " to " ++ to_text to)))
+
+abbrev pub consumer_text : ConsumerId → List ℕ
+consumer_text consumer = codes " " ++ decimal consumer.0.0
+
+abbrev pub all_text : List ConsumerId → List ℕ
+all_text [] = codes " none"
+all_text (consumer ∷ consumers) = flat_map consumer_text (consumer ∷ consumers)
+
+abbrev pub published_text : EntryNo → List ConsumerId → List ℕ
+published_text at consumers = codes "published " ++ (decimal at.0 ++ (codes " to" ++ all_text consumers))
+
+abbrev pub delivery_text : ConsumerId → Message → List ℕ
+delivery_text consumer message =
+    (if message.request then codes "request " else codes "deliver ") ++ (decimal consumer.0.0 ++ (codes " " ++ (decimal message.id.0.0 ++ (codes " " ++ body_text message.body))))
+
+-- the code of a failure is printed as it is, and the text of its receiver in quotes
+abbrev pub failure_text : FailureKind → ℤ → List ℕ → List ℕ
+failure_text failures.Timeout code text = codes "timeout " ++ signed_decimal code
+failure_text failures.NoHandlers code text = codes "no_handlers " ++ signed_decimal code
+failure_text failures.RecipientFailure code text = codes "recipient_failure " ++ (signed_decimal code ++ (codes " " ++ quoted text))
+
+abbrev pub outcome_text : Outcome → List ℕ
+outcome_text (outcomes.Ok body None) = codes "ok " ++ body_text body
+outcome_text (outcomes.Ok body (Some again)) = codes "again " ++ (decimal again.0.0 ++ (codes " " ++ body_text body))
+outcome_text (outcomes.Failed failure) = failure_text failure.kind failure.code failure.text
 
 abbrev pub task_text : Task → List ℕ
-task_text (tasks.Deliver consumer message) = codes "deliver " ++ (decimal consumer.0.0 ++ (codes " " ++ (decimal message.id.0.0 ++ (codes " " ++ body_text message.body))))
+task_text (tasks.Deliver consumer message) = delivery_text consumer message
+task_text (tasks.Outcome request outcome) = codes "outcome " ++ (decimal request.0.0 ++ (codes " " ++ outcome_text outcome))
 
 -- THE TABLE: the text of the reply to the call of this entry
 abbrev pub reply_text : EntryNo → Reply → List ℕ
+reply_text at (replies.Pass pass) = codes "pass " ++ decimal pass.0
 reply_text at (replies.Context context) = codes "context " ++ context_text context
 reply_text at (replies.Consumer consumer) = codes "consumer " ++ decimal consumer.0.0
-reply_text at (replies.Sent to) = sent_text at to
+reply_text at (replies.Sent to) = message_text (codes "sent") at to
+reply_text at (replies.Published consumers) = published_text at consumers
+reply_text at (replies.Asked to) = message_text (codes "asked") at to
 reply_text at (replies.Task task) = task_text task
 reply_text at replies.Idle = codes "idle"
 reply_text at replies.Done = codes "ok"
+reply_text at (replies.Fired count) = codes "fired " ++ decimal count
 reply_text at (replies.Refused refusal) = refusal_text refusal
 
 abbrev pub reply_line : EntryNo → Reply → List ℕ

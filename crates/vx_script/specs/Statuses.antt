@@ -2,12 +2,16 @@
 use Rattle.std.specs.Prelude.{ℕ, List, [], ◌++◌, codes}
 use Rattle.std.specs.Fmt.{decimal}
 use Rattle.vx_script.specs.declared.fault.LineWhy.{LineWhy}
-use Rattle.vx_script.specs.declared.fault.LineWhy.TheVariants.{Unbuilt}
+use Rattle.vx_script.specs.declared.fault.LineWhy.TheVariants.{Utf8, Pass, Word, Unbuilt, Form}
 use Rattle.vx_script.specs.declared.status.Status.{Status}
 use Rattle.vx_script.specs.declared.status.Status.TheVariants as statuses
 
 abbrev pub why_text : LineWhy → List ℕ
+why_text Utf8 = codes "utf8"
+why_text Pass = codes "pass"
+why_text Word = codes "word"
 why_text Unbuilt = codes "unbuilt"
+why_text Form = codes "form"
 
 abbrev pub bad_line_text : ℕ → LineWhy → List ℕ
 bad_line_text line why = codes "vxscript: bad line " ++ (decimal line ++ (codes ": " ++ (why_text why ++ codes "\n")))

@@ -1,19 +1,18 @@
 //! What reading gives, in the words of the grammar.
-ghost use Rattle.std.specs.Prelude.{◌≡◌, ◌↔◌, List, ℕ, Option, Ok, Err};
+ghost use Rattle.std.specs.Prelude.{◌≡◌, ◌↔◌, List, ℕ, Option, Some, Ok, Err};
 ghost use Rattle.std.specs.Str.Lines.{lines};
-ghost use Rattle.vx_call.specs.declared.call.Call.{Call};
-ghost use Rattle.vx_script.specs.declared.fault.LineWhy.{LineWhy};
+ghost use Rattle.vx_script.specs.declared.command.Command.{Command};
 ghost use Rattle.vx_script.specs.Grammar.{IsLine};
-ghost use Rattle.vx_script.specs.Lines.{calls_of, Make, IsFirstBad};
-ghost use Rattle.vx_script.specs.Reading.{line_at};
+ghost use Rattle.vx_script.specs.Lines.{commands_of, Bad, Make, IsFirstBad};
+ghost use Rattle.vx_script.specs.Reading.{said_at};
 
-/// A line is read as what it says by the grammar, and a line in no form is not read.
+/// A line is read as what it says by the grammar, where there are so many passes, and a line in no form is not read.
 pub fn lines_are_read_as_spelled()
-    ensures { (line : List ℕ) (said : Option Call) → (line_at line ≡ Ok said) ↔ IsLine said line }
+    ensures { (passes : ℕ) (line : List ℕ) (said : Option Command) → (said_at passes line ≡ Some said) ↔ IsLine passes said line }
 {}
 
-/// A script is read as the calls that its lines make, in order, or as its first line in no form.
+/// A script is read as the calls that its lines make, in order, or as its first line in no form, and why.
 pub fn scripts_are_read_as_spelled()
-    ensures calls { (bytes : List ℕ) (calls : List Call) → (calls_of bytes ≡ Ok calls) ↔ Make (lines bytes) calls }
-    ensures bad { (bytes : List ℕ) (number : ℕ) → ((why : LineWhy) × (calls_of bytes ≡ Err (number, why))) ↔ IsFirstBad 1 (lines bytes) number }
+    ensures commands { (bytes : List ℕ) (commands : List Command) → (commands_of bytes ≡ Ok commands) ↔ Make 1 (lines bytes) commands }
+    ensures bad { (bytes : List ℕ) (bad : Bad) → (commands_of bytes ≡ Err bad) ↔ IsFirstBad 1 1 (lines bytes) bad }
 {}

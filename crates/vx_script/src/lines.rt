@@ -1,13 +1,15 @@
 //! The lines of a whole script.
-ghost use Rattle.std.specs.Prelude.{◌≡◌, ◌==◌, ◌∷◌, ◌<◌, ◌≤◌, ℕ, ◌+◌, length, vec_len, IfOk, IfErr, OnOk, Ok, MatchResult};
+ghost use Rattle.std.specs.Prelude.{◌≡◌, ◌==◌, ◌∷◌, ◌<◌, ◌≤◌, ℕ, ◌+◌, length, vec_len, IfOk, IfErr, OnOk, Ok, MatchResult, option_map, None};
 ghost use Rattle.std.specs.List.{position_or_len};
 ghost use Rattle.std.specs.Str.Lines.{lines, strip_carriage_return};
 ghost use Rattle.vx_script.specs.Lines as script;
-ghost use Rattle.vx_script.specs.Lines.{calls_of, ScriptFails, Adds};
-ghost use Rattle.vx_script.specs.Reading.{line_at, Fails};
+ghost use Rattle.vx_script.specs.Lines.{commands_of, ScriptFails, Adds};
+ghost use Rattle.vx_script.specs.Reading.{said_at, Fails};
 
+use crate::command::Command;
 use crate::fault::{LineFault, ScriptFault};
 use crate::line::read_line;
+use crate::reason::reason;
 use std::alloc::Global;
 use vx_call::Call;
 
@@ -46,44 +48,66 @@ fn cut_line(bytes: &[u8]) -> (&[u8], &[u8])
     }
 }
 
-/// Adds the call of a line, if it makes one.
-fn read_into(alloc: Global, line: &[u8], calls: &mut Vec<Call>) -> Result<(), LineFault>
-    ensures ok { OnOk result (Adds (line_at line.now) calls.old.items calls.new.items) }
-    ensures one { vec_len calls.new ≤ vec_len calls.old + 1 }
-    ensures err { IfErr result (λ fault. Fails fault (line_at line.now)) }
+/// How many passes are there after a call.
+fn passes_with(passes: u64, call: &Call) -> u64
+    requires { passes < u64.MAX }
+    ensures value { result ≡ script.passes_with passes call.now }
+    ensures few { result ≤ passes + 1 }
 {
-    if let Some(call) = read_line(alloc, line)? {
-        calls.push(call)?;
+    match call {
+        Call::NewPass => passes + 1,
+        _ => passes,
     }
-    Ok(())
 }
 
-/// The fault of a line with its number.
-fn numbered(line: u64, fault: LineFault) -> ScriptFault
-    ensures { result ≡ script.numbered line fault }
+/// Adds the call of a line, if it makes one, and gives how many passes are there then.
+fn read_into(
+    alloc: Global,
+    passes: u64,
+    line: &[u8],
+    commands: &mut Vec<Command>,
+) -> Result<u64, LineFault>
+    requires { passes < u64.MAX }
+    ensures ok { IfOk result (λ after. Adds (said_at passes line.now) commands.old.items commands.new.items passes after) }
+    ensures few { IfOk result (λ after. after ≤ passes + 1) }
+    ensures one { vec_len commands.new ≤ vec_len commands.old + 1 }
+    ensures err { IfErr result (λ fault. Fails fault (said_at passes line.now)) }
+{
+    let Some(command) = read_line(alloc, passes, line)? else {
+        return Ok(passes);
+    };
+    let after = passes_with(passes, &command.call);
+    commands.push(command)?;
+    Ok(after)
+}
+
+/// The fault of a line with its number, where there are so many passes before it.
+fn bad_line(number: u64, passes: u64, line: &[u8], fault: LineFault) -> ScriptFault
+    ensures { result ≡ script.numbered number passes line.now fault }
 {
     match fault {
         LineFault::NoMemory => ScriptFault::NoMemory,
-        LineFault::Bad(why) => ScriptFault::BadLine(line, why),
+        LineFault::Misfit => ScriptFault::BadLine(number, reason(passes, line)),
     }
 }
 
 /// The calls that the lines of a script make, in order, or the first line in no form.
-pub fn read_script(alloc: Global, bytes: &[u8]) -> Result<Vec<Call>, ScriptFault>
-    ensures calls { MatchResult result (λ calls. calls_of bytes.now ≡ Ok calls.items) (λ fault. ScriptFails fault (calls_of bytes.now)) }
-    ensures few { IfOk result (λ calls. length calls.items ≤ length bytes.now) }
+pub fn read_script(alloc: Global, bytes: &[u8]) -> Result<Vec<Command>, ScriptFault>
+    ensures commands { MatchResult result (λ commands. commands_of bytes.now ≡ Ok commands.items) (λ fault. ScriptFails fault (commands_of bytes.now)) }
+    ensures few { IfOk result (λ commands. length commands.items ≤ length bytes.now) }
 {
-    let mut calls = Vec::new(alloc);
+    let mut commands = Vec::new(alloc);
     let mut rest = bytes;
     let mut number = 0u64;
+    let mut passes = 1u64;
     while !rest.is_empty() {
         let (line, after) = cut_line(rest);
         number += 1;
-        match read_into(alloc, line, &mut calls) {
-            Ok(()) => {}
-            Err(fault) => return Err(numbered(number, fault)),
+        match read_into(alloc, passes, line, &mut commands) {
+            Ok(now) => passes = now,
+            Err(fault) => return Err(bad_line(number, passes, line, fault)),
         }
         rest = after;
     }
-    Ok(calls)
+    Ok(commands)
 }

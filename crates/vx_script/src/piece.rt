@@ -1,143 +1,94 @@
-//! The pieces of a line. A tail is what is left behind a word: it is empty or begins with a space.
-ghost use Rattle.std.specs.Prelude.{◌≡◌, ◌<◌, ◌≤◌, ◌^◌, List, ℕ, length, take, drop, IsTrue, IfOk};
+//! The pieces of a line, each behind the spaces before it, with the tail behind it.
+ghost use Rattle.std.specs.Prelude.{◌≡◌, ◌≤◌, List, ℕ, length, take, drop, IsTrue, IfOk, option_map};
 ghost use Rattle.std.specs.List.{list_all};
-ghost use Rattle.std.specs.Char.{is_ascii_digit};
-ghost use Rattle.std.specs.Str.{IsUtf8, is_utf8};
-ghost use Rattle.std.specs.Str.Parse.{AllDigits, digits_value};
+ghost use Rattle.std.specs.Str.{is_utf8};
 ghost use Rattle.vx_script.specs.Grammar as grammar;
+ghost use Rattle.vx_script.specs.Grammar.{AWord, ANumber, AContext, AnAddress, ACode};
 ghost use Rattle.vx_script.specs.Reading as reading;
-ghost use Rattle.vx_script.specs.Reading.{Gives, behind_spaces, word_at, keyword_at, context_at, address_at, quoted_at, number_at, content_at, body_at, end_at};
+ghost use Rattle.vx_script.specs.Reading.{Gives, token_at, context_in, quoted_at, int_at, content_at, body_at, end_at, text_at};
 
-use crate::fault::{LineFault, LineWhy};
+use crate::fault::LineFault;
+use crate::number;
+use crate::word::{skip_spaces, split_word, word};
 use std::alloc::Global;
 use vx_data::{Body, ContextId, EntryNo, NoMemory, Text};
 
-/// A line in no form that is built.
-const UNBUILT: LineFault = LineFault::Bad(LineWhy::Unbuilt);
-
-fn word_len(bytes: &[u8]) -> usize
-    ensures value { result ≡ reading.word_len bytes.now }
-    ensures within { result ≤ length bytes.now }
-{
-    for (i, b) in bytes.iter().enumerate() {
-        if *b == b' ' {
-            return i;
-        }
-    }
-    bytes.len()
-}
-
-fn spaces_len(bytes: &[u8]) -> usize
-    ensures value { result ≡ reading.spaces_len bytes.now }
-    ensures within { result ≤ length bytes.now }
-{
-    for (i, b) in bytes.iter().enumerate() {
-        if *b != b' ' {
-            return i;
-        }
-    }
-    bytes.len()
-}
-
-/// How many bytes stand before the first quote.
-fn quote_at(bytes: &[u8]) -> usize
-    ensures value { result ≡ reading.quote_at bytes.now }
-    ensures within { result ≤ length bytes.now }
-{
-    for (i, b) in bytes.iter().enumerate() {
-        if *b == b'"' {
-            return i;
-        }
-    }
-    bytes.len()
-}
-
-/// The word at the front, and the tail behind it.
-pub fn split_word(bytes: &[u8]) -> (&[u8], &[u8])
-    ensures word { result.0.now ≡ reading.first_word bytes.now }
-    ensures tail { result.1.now ≡ reading.behind_word bytes.now }
-{
-    bytes.split_at(word_len(bytes))
-}
-
-/// What stands behind the spaces at the front, if there are any.
-pub fn trim(bytes: &[u8]) -> &[u8]
-    ensures { result.now ≡ reading.without_spaces bytes.now }
-{
-    let (_, rest) = bytes.split_at(spaces_len(bytes));
-    rest
-}
-
-/// What stands behind the spaces at the front, of which there is one at least.
-#[tactic(auto, unfolding(crate::specs::Reading::behind_spaces))]
-fn skip_spaces(tail: &[u8]) -> Result<&[u8], LineFault>
-    ensures { Gives (λ x. x.now) result (behind_spaces tail.now) }
-{
-    let count = spaces_len(tail);
-    if count == 0 {
-        return Err(UNBUILT);
-    }
-    let (_, bytes) = tail.split_at(count);
-    Ok(bytes)
-}
-
-#[tactic(auto, unfolding(crate::specs::Reading::word_at))]
-fn word(tail: &[u8]) -> Result<(&[u8], &[u8]), LineFault>
-    ensures { Gives (λ x. (x.0.now, x.1.now)) result (word_at tail.now) }
-{
-    let bytes = skip_spaces(tail)?;
-    Ok(split_word(bytes))
-}
+/// A line in no form.
+const MISFIT: LineFault = LineFault::Misfit;
 
 /// Takes a certain word.
-#[tactic(auto, unfolding(crate::specs::Reading::keyword_at))]
 pub fn keyword<'a>(keyword: &[u8], tail: &'a [u8]) -> Result<&'a [u8], LineFault>
-    ensures { Gives (λ x. (tt, x.now)) result (keyword_at keyword.now tail.now) }
+    ensures { Gives (λ x. (tt, x.now)) result (token_at (AWord keyword.now) tail.now) }
 {
-    let (text, rest) = word(tail)?;
+    let (text, rest) = word(tail).ok_or(MISFIT)?;
     if text == keyword {
         Ok(rest)
     } else {
-        Err(UNBUILT)
+        Err(MISFIT)
     }
 }
 
-fn are_digits(text: &[u8]) -> bool
-    ensures { result ≡ list_all is_ascii_digit text.now }
+/// A number of 64 bits.
+pub fn number(tail: &[u8]) -> Result<(u64, &[u8]), LineFault>
+    ensures { Gives (λ x. (x.0, x.1.now)) result (token_at ANumber tail.now) }
 {
-    text.iter().all(|b| b.is_ascii_digit())
+    let (text, rest) = word(tail).ok_or(MISFIT)?;
+    let number = number::number(text).ok_or(MISFIT)?;
+    Ok((number, rest))
 }
 
-fn is_number(text: &[u8]) -> bool
-    ensures { result ≡ grammar.is_number text.now }
+/// The code of a failure.
+pub fn code(tail: &[u8]) -> Result<(i32, &[u8]), LineFault>
+    ensures { Gives (λ x. (x.0, x.1.now)) result (token_at ACode tail.now) }
 {
-    !text.is_empty() && text.len() <= 18 && are_digits(text)
+    let (text, rest) = word(tail).ok_or(MISFIT)?;
+    let code = number::code(text).ok_or(MISFIT)?;
+    Ok((code, rest))
 }
 
-/// The number that digits spell.
-fn value_of(digits: &[u8]) -> u64
-    requires { IsTrue (grammar.is_number digits.now) }
-    ensures value { result ≡ digits_value 10 digits.now }
-    ensures small { result < 10 ^ 18 }
+/// How many bytes stand before the first point.
+fn point_at(bytes: &[u8]) -> usize
+    ensures value { result ≡ reading.point_at bytes.now }
+    ensures within { result ≤ length bytes.now }
 {
-    let mut value = 0u64;
-    for b in digits {
-        value = value * 10 + u64::from(*b - b'0');
+    for (i, b) in bytes.iter().enumerate() {
+        if *b == b'.' {
+            return i;
+        }
     }
-    value
+    bytes.len()
 }
 
-/// A context, by the entry that made it.
-#[tactic(auto, unfolding(crate::specs::Reading::context_at))]
+/// The number of a context, from the point on.
+fn instance_of(text: &[u8]) -> Option<u32>
+    ensures { result ≡ reading.instance_in text.now }
+{
+    match text {
+        [_, digits @ ..] => number::small_number(digits),
+        [] => Some(0),
+    }
+}
+
+#[tactic(auto, unfolding(crate::specs::Reading::context_in))]
+fn context_of(text: &[u8]) -> Option<ContextId>
+    ensures { result ≡ context_in text.now }
+{
+    let (front, back) = text.split_at(point_at(text));
+    let entry = number::number(front)?;
+    let instance = instance_of(back)?;
+    Some(ContextId {
+        entry: EntryNo(entry),
+        instance,
+    })
+}
+
+/// A context, by the entry that made it and its number there.
 pub fn context(tail: &[u8]) -> Result<(ContextId, &[u8]), LineFault>
-    ensures { Gives (λ x. (x.0, x.1.now)) result (context_at tail.now) }
+    ensures { Gives (λ x. (x.0, x.1.now)) result (token_at AContext tail.now) }
 {
-    let (text, rest) = word(tail)?;
-    if !is_number(text) {
-        return Err(UNBUILT);
-    }
-    let entry = EntryNo(value_of(text));
-    Ok((ContextId { entry, instance: 0 }, rest))
+    let (text, rest) = word(tail).ok_or(MISFIT)?;
+    let context = context_of(text).ok_or(MISFIT)?;
+    Ok((context, rest))
 }
 
 /// The text of bytes that are UTF-8.
@@ -170,13 +121,13 @@ fn is_address(text: &[u8]) -> bool
 }
 
 /// An address.
-#[tactic(auto, using(crate::proofs::Texts::address_utf8), unfolding(crate::specs::Reading::address_at))]
+#[tactic(auto, using(crate::proofs::Texts::address_utf8))]
 pub fn address(alloc: Global, tail: &[u8]) -> Result<(Text, &[u8]), LineFault>
-    ensures { Gives (λ x. (x.0, x.1.now)) result (address_at tail.now) }
+    ensures { Gives (λ x. (x.0, x.1.now)) result (token_at AnAddress tail.now) }
 {
-    let (text, rest) = word(tail)?;
+    let (text, rest) = word(tail).ok_or(MISFIT)?;
     if !is_address(text) {
-        return Err(UNBUILT);
+        return Err(MISFIT);
     }
     Ok((text_of(alloc, text)?, rest))
 }
@@ -199,6 +150,19 @@ fn is_quoted(text: &[u8]) -> bool
     text.len() <= 1_000_000 && are_quotable(text)
 }
 
+/// How many bytes stand before the first quote.
+fn quote_at(bytes: &[u8]) -> usize
+    ensures value { result ≡ reading.quote_at bytes.now }
+    ensures within { result ≤ length bytes.now }
+{
+    for (i, b) in bytes.iter().enumerate() {
+        if *b == b'"' {
+            return i;
+        }
+    }
+    bytes.len()
+}
+
 /// A text, behind its first quote.
 #[tactic(auto, using(crate::proofs::Texts::quoted_utf8), unfolding(crate::specs::Reading::quoted_at))]
 fn quoted(alloc: Global, bytes: &[u8]) -> Result<(Body, &[u8]), LineFault>
@@ -208,32 +172,21 @@ fn quoted(alloc: Global, bytes: &[u8]) -> Result<(Body, &[u8]), LineFault>
     match rest {
         [_, tail @ ..] => {
             if !is_quoted(inner) {
-                return Err(UNBUILT);
+                return Err(MISFIT);
             }
             Ok((Body::text(text_of(alloc, inner)?), tail))
         }
-        [] => Err(UNBUILT),
+        [] => Err(MISFIT),
     }
-}
-
-fn is_unpadded(text: &[u8]) -> bool
-    requires { 0 < length text.now }
-    ensures { result ≡ grammar.is_unpadded text.now }
-{
-    text[0] != b'0' || text.len() == 1
 }
 
 /// A number without a zero before another digit.
-#[tactic(auto, unfolding(crate::specs::Reading::number_at))]
-fn number(bytes: &[u8]) -> Result<(Body, &[u8]), LineFault>
-    ensures { Gives (λ x. (x.0, x.1.now)) result (number_at bytes.now) }
+fn int(bytes: &[u8]) -> Result<(Body, &[u8]), LineFault>
+    ensures { Gives (λ x. (x.0, x.1.now)) result (int_at bytes.now) }
 {
     let (text, rest) = split_word(bytes);
-    if is_number(text) && is_unpadded(text) {
-        Ok((Body::int(value_of(text) as i64), rest))
-    } else {
-        Err(UNBUILT)
-    }
+    let number = number::int(text).ok_or(MISFIT)?;
+    Ok((Body::int(number), rest))
 }
 
 #[tactic(auto, unfolding(crate::specs::Reading::content_at))]
@@ -245,10 +198,10 @@ fn content(alloc: Global, bytes: &[u8]) -> Result<(Body, &[u8]), LineFault>
             if *first == b'"' {
                 quoted(alloc, rest)
             } else {
-                number(bytes)
+                int(bytes)
             }
         }
-        [] => Err(UNBUILT),
+        [] => Err(MISFIT),
     }
 }
 
@@ -257,8 +210,24 @@ fn content(alloc: Global, bytes: &[u8]) -> Result<(Body, &[u8]), LineFault>
 pub fn body(alloc: Global, tail: &[u8]) -> Result<(Body, &[u8]), LineFault>
     ensures { Gives (λ x. (x.0, x.1.now)) result (body_at tail.now) }
 {
-    let bytes = skip_spaces(tail)?;
+    let bytes = skip_spaces(tail).ok_or(MISFIT)?;
     content(alloc, bytes)
+}
+
+/// The rest of the line, behind all spaces.
+#[tactic(auto, using(crate::proofs::Texts::quoted_utf8), unfolding(crate::specs::Reading::text_at))]
+pub fn text(alloc: Global, tail: &[u8]) -> Result<Text, LineFault>
+    ensures { Gives (λ x. x) result (text_at tail.now) }
+{
+    let bytes = if tail.is_empty() {
+        tail
+    } else {
+        skip_spaces(tail).ok_or(MISFIT)?
+    };
+    if !is_quoted(bytes) {
+        return Err(MISFIT);
+    }
+    Ok(text_of(alloc, bytes)?)
 }
 
 fn is_blank(text: &[u8]) -> bool
@@ -272,5 +241,5 @@ fn is_blank(text: &[u8]) -> bool
 pub fn end(tail: &[u8]) -> Result<(), LineFault>
     ensures { Gives (λ _. tt) result (end_at tail.now) }
 {
-    if is_blank(tail) { Ok(()) } else { Err(UNBUILT) }
+    if is_blank(tail) { Ok(()) } else { Err(MISFIT) }
 }

@@ -1,8 +1,11 @@
 ghost use Rattle.std.specs.Prelude.{◌≡◌, ◌≢◌, ◌↔◌, ◌≤◌, IsTrue, [], ◌∷◌, codes, ℕ, List, length, Some, Ok};
 ghost use Rattle.vx_io.specs.Faults.{Rose};
-ghost use Rattle.vx_call.specs.declared.call.Call.{Call};
-ghost use Rattle.vx_script.specs.Lines.{calls_of};
+ghost use Rattle.vx_script.specs.declared.command.Command.{Command};
+ghost use Rattle.vx_script.specs.Lines.{commands_of};
 ghost use Rattle.vx_call.specs.Machine.{IsLegal};
+ghost use Rattle.vx_laws.specs.Deliveries.{DeliversOnce};
+ghost use Rattle.vx_laws.specs.Outcomes.{EndsRequestsOnce};
+ghost use Rattle.vx_laws.specs.Turns.{TakesTurns};
 ghost use Rattle.vx_script.specs.Playing.{history_of};
 ghost use Rattle.vx_script.specs.Outcome.{IsOutcome, IsSettled};
 
@@ -40,13 +43,13 @@ fn run<S: Source, K: Sink>(alloc: Global, words: &[Text], source: &mut S, sink: 
         Err(ReadAllFault::NoMemory) => return Status::NoMemory,
         Err(ReadAllFault::TooLong(count)) => return Status::TooLong(count),
     };
-    let calls = match read_script(alloc, &bytes) {
-        Ok(calls) => calls,
+    let commands = match read_script(alloc, &bytes) {
+        Ok(commands) => commands,
         Err(ScriptFault::NoMemory) => return Status::NoMemory,
         Err(ScriptFault::BadLine(line, why)) => return Status::BadLine { line, why },
     };
     let mut hub = Hub::new(alloc);
-    match make_all(alloc, &mut hub, calls, sink) {
+    match make_all(alloc, &mut hub, commands, sink) {
         Ok(()) => Status::Done,
         Err(SinkFault::Failed) => Status::WriteFault,
         Err(SinkFault::NoMemory) => Status::NoMemory,
@@ -68,11 +71,16 @@ pub fn script<S: Source, K: Sink>(
     ensures write_fault { result ≡ Status.WriteFault → Rose (K.faults sink.old) (K.faults sink.new) }
 
     // Every reply of the history of good lines is the machine's.
-    ensures legal { (bytes : List ℕ) (calls : List Call) → length bytes ≤ LIMIT → calls_of bytes ≡ Ok calls → IsLegal (history_of calls) }
+    ensures legal { (bytes : List ℕ) (commands : List Command) → length bytes ≤ LIMIT → commands_of bytes ≡ Ok commands → IsLegal (history_of commands) }
+
+    // In that history each message is delivered once, each request ends once, and handlers take turns.
+    ensures delivered_once { (bytes : List ℕ) (commands : List Command) → length bytes ≤ LIMIT → commands_of bytes ≡ Ok commands → DeliversOnce (history_of commands) }
+    ensures requests_end_once { (bytes : List ℕ) (commands : List Command) → length bytes ≤ LIMIT → commands_of bytes ≡ Ok commands → EndsRequestsOnce (history_of commands) }
+    ensures handlers_take_turns { (bytes : List ℕ) (commands : List Command) → length bytes ≤ LIMIT → commands_of bytes ≡ Ok commands → TakesTurns (history_of commands) }
 
     // Good lines, not too many, are made and answered, unless a read or a write fails, or memory runs out.
-    ensures complete { (bytes : List ℕ) (calls : List Call) → words.now ≡ codes "run" ∷ [] → S.left source.old ≡ Some bytes
-        → length bytes ≤ LIMIT → calls_of bytes ≡ Ok calls → ¬ Rose (S.faults source.old) (S.faults source.new)
+    ensures complete { (bytes : List ℕ) (commands : List Command) → words.now ≡ codes "run" ∷ [] → S.left source.old ≡ Some bytes
+        → length bytes ≤ LIMIT → commands_of bytes ≡ Ok commands → ¬ Rose (S.faults source.old) (S.faults source.new)
         → ¬ Rose (K.faults sink.old) (K.faults sink.new) → IsSettled result }
 {
     run(alloc, words, source, sink)

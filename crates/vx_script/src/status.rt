@@ -25,12 +25,23 @@ pub enum Status {
     NoMemory,
 }
 
+/// The word for the reason.
+fn why_text(why: LineWhy) -> &'static str
+    ensures { result.now ≡ texts.why_text why }
+{
+    match why {
+        LineWhy::Utf8 => "utf8",
+        LineWhy::Pass => "pass",
+        LineWhy::Word => "word",
+        LineWhy::Unbuilt => "unbuilt",
+        LineWhy::Form => "form",
+    }
+}
+
 fn bad_line_text(alloc: Global, line: u64, why: LineWhy) -> Result<String, AllocError>
     ensures { IfOk result (λ text. string_bytes text ≡ texts.bad_line_text line why) }
 {
-    match why {
-        LineWhy::Unbuilt => format!(in alloc; "vxscript: bad line {line}: unbuilt\n"),
-    }
+    format!(in alloc; "vxscript: bad line {line}: {}\n", why_text(why))
 }
 
 impl Status {

@@ -5,8 +5,6 @@ use std::test::Fail;
 use vx_data::Text;
 use vx_io::{MemSink, MemSource};
 
-const UNBUILT: LineWhy = LineWhy::Unbuilt;
-
 fn run_words(alloc: Global) -> Result<Vec<Text>, Fail> {
     let mut words = Vec::new(alloc);
     words.push(Text::new(alloc, b"run")?)?;
@@ -30,77 +28,200 @@ fn plays(
     Ok(())
 }
 
-fn bad(line: u64) -> Status {
-    Status::BadLine { line, why: UNBUILT }
+fn bad(line: u64, why: LineWhy) -> Status {
+    Status::BadLine { line, why }
+}
+
+/// Scripts whose lines are all good, with the lines that they write. A `/` stands for a newline.
+static GOOD: [(&str, &str); 24] = [
+    ("", ""),
+    ("finish", "refused 5 not holding/"),
+    ("send news 1/", "sent 0 to none/"),
+    (
+        "context/register 0 news/send news \"hi\"/take own 0/finish/",
+        "context 0/consumer 1/sent 2 to 1/deliver 1 2 \"hi\"/ok/",
+    ),
+    (
+        "context/register 0 a/send a 1/take own 0/take own 0/finish",
+        "context 0/consumer 1/sent 2 to 1/deliver 1 2 1/refused 6 holding 3/ok/",
+    ),
+    (
+        "context/register 0 a/register 0 a/send a 1/send a 2/send a 3/unregister 1/send a 4",
+        "context 0/consumer 1/consumer 2/sent 3 to 1/sent 4 to 2/sent 5 to 1/ok/sent 7 to 2/",
+    ),
+    (
+        "context/register 0 a/register 0 a/send a 1/send a 2/send a 3/unregister 1/send a 4/\
+         unregister 2/register 0 a/send a 0",
+        "context 0/consumer 1/consumer 2/sent 3 to 1/sent 4 to 2/sent 5 to 1/ok/sent 7 to 2/\
+         ok/consumer 9/sent 10 to 9/",
+    ),
+    (
+        "\r/# no call//  context  /register 000  a /send a  \"x y\" /take own 7/take   own 0.0",
+        "context 0/consumer 1/sent 2 to 1/refused 8 no lane/deliver 1 2 \"x y\"/",
+    ),
+    (
+        "register 5 a/take own 5/take own 0.1",
+        "refused 1 no context/refused 8 no lane/refused 8 no lane/",
+    ),
+    ("context/take own 0", "context 0/idle/"),
+    (
+        "context/register 0 a/request 0 a 1/take own 0/reply 2 \"x\"/reply 2 \"y\"/finish/take own 0",
+        "context 0/consumer 1/asked 2 to 1/request 1 2 1/ok/refused 13 late 4/ok/outcome 2 ok \"x\"/",
+    ),
+    (
+        "context/register 0 a/request +timeout:1 0 a 1/advance 0/advance 1/take own 0/finish/take own 0",
+        "context 0/consumer 1/asked 2 to 1/fired 0/fired 1/request 1 2 1/ok/outcome 2 timeout -1/",
+    ),
+    (
+        "context/register 0 a/request 0 a 1/take own 0/ask 2 0 2/fail 2 4 no/finish/take own 0/\
+         fail 4 -7 no/finish/take own 0",
+        "context 0/consumer 1/asked 2 to 1/request 1 2 1/asked 4 to asker/refused 13 late 4/ok/\
+         outcome 2 again 4 2/ok/ok/outcome 4 recipient_failure -7 \"no\"/",
+    ),
+    (
+        "context/register 0 a/request 0 a 1/unregister 1/take own 0",
+        "context 0/consumer 1/asked 2 to 1/ok/outcome 2 no_handlers -1/",
+    ),
+    (
+        "context/register 0 a/register 0 a/publish a 1/publish b 1",
+        "context 0/consumer 1/consumer 2/published 3 to 1 2/published 4 to none/",
+    ),
+    (
+        "pass/context/@1 register 1 a/@01  context/register 3 a/@1 unregister 9/unregister 18446744073709551615",
+        "pass 1/context 1/refused 4 not yours pass 0/context 3/refused 4 not yours pass 1/\
+         refused 3 no consumer/refused 3 no consumer/",
+    ),
+    (
+        "context/request +timeout:0 0 a 1/request +timeout:1000000000001 0 a 1/reply 7 1/ask 7 0 1",
+        "context 0/refused 17 bad delay/refused 17 bad delay/refused 11 no message/refused 11 no message/",
+    ),
+    (
+        "context/register 0 a/send a 1/take own 0/reply 2 1/fail 2 -0",
+        "context 0/consumer 1/sent 2 to 1/deliver 1 2 1/refused 12 not request/refused 12 not request/",
+    ),
+    (
+        "context/request 0 a 1/take own 0/finish",
+        "context 0/asked 1 to none/outcome 1 no_handlers -1/ok/",
+    ),
+    (
+        "context/register 0 a/request 0 a 1/take own 0/fail 2  -2147483648   'a'  b /finish/take own 0",
+        "context 0/consumer 1/asked 2 to 1/request 1 2 1/ok/ok/\
+         outcome 2 recipient_failure -2147483648 \"'a'  b \"/",
+    ),
+    (
+        "register 18446744073709551615.4294967295 a",
+        "refused 1 no context/",
+    ),
+    ("fail 1 2147483647", "refused 11 no message/"),
+    (
+        "context/register 0 a/advance 5/advance 3/request +timeout:1 0 a 1/advance 5/advance 6",
+        "context 0/consumer 1/fired 0/fired 0/asked 4 to 1/fired 0/fired 1/",
+    ),
+    (
+        "context/register 0 a/advance 4611686018427387904/request 0 a 1/advance 18446744073709551615",
+        "context 0/consumer 1/fired 0/asked 3 to 1/fired 0/",
+    ),
+];
+
+/// Bad scripts, with the first line in no form, and why. A `/` stands for a newline.
+static BAD: [(&str, u64, LineWhy); 60] = [
+    ("context/foo", 2, LineWhy::Word),
+    ("context/pass 1", 2, LineWhy::Form),
+    ("context\r//# fine/context 1/foo", 4, LineWhy::Form),
+    ("   ", 1, LineWhy::Word),
+    ("\r", 1, LineWhy::Word),
+    (" # no comment", 1, LineWhy::Word),
+    ("con\0text", 1, LineWhy::Word),
+    ("finish\tall", 1, LineWhy::Word),
+    ("@1 pass", 1, LineWhy::Pass),
+    ("pass/@1 pass/@2 pass/@4 pass", 4, LineWhy::Pass),
+    ("@ pass", 1, LineWhy::Pass),
+    ("@x pass", 1, LineWhy::Pass),
+    ("@-0 pass", 1, LineWhy::Pass),
+    ("@18446744073709551616 pass", 1, LineWhy::Pass),
+    ("@000000000000000000000 pass", 1, LineWhy::Pass),
+    ("@1", 1, LineWhy::Pass),
+    ("@0", 1, LineWhy::Word),
+    ("@0 @0 pass", 1, LineWhy::Word),
+    ("@0 loops", 1, LineWhy::Unbuilt),
+    ("close 1", 1, LineWhy::Unbuilt),
+    ("register +limit:1 0 a", 1, LineWhy::Unbuilt),
+    ("register +x +limit:", 1, LineWhy::Unbuilt),
+    ("register +limit 0 a", 1, LineWhy::Form),
+    ("register 0 +limit:1", 1, LineWhy::Form),
+    ("register +timeout:1 0 a", 1, LineWhy::Form),
+    ("send +h:a:b a 1", 1, LineWhy::Unbuilt),
+    ("publish +codec:1 a 1", 1, LineWhy::Unbuilt),
+    ("request +timeout:1 +once 0 a 1", 1, LineWhy::Unbuilt),
+    ("request +once:1 0 a 1", 1, LineWhy::Form),
+    ("request +timeout:1 +timeout:1 0 a 1", 1, LineWhy::Form),
+    ("request +timeout: 0 a 1", 1, LineWhy::Form),
+    ("request +timeout:x 0 a 1", 1, LineWhy::Form),
+    ("reply +once 0 1", 1, LineWhy::Form),
+    ("ask +h: 0 0 1", 1, LineWhy::Unbuilt),
+    ("fail +h:a:b 0 1", 1, LineWhy::Form),
+    ("take loop 1", 1, LineWhy::Unbuilt),
+    ("take pool", 1, LineWhy::Unbuilt),
+    ("take own", 1, LineWhy::Form),
+    ("take any 0", 1, LineWhy::Form),
+    ("finish later", 1, LineWhy::Unbuilt),
+    ("finish nomemory", 1, LineWhy::Unbuilt),
+    ("finish all", 1, LineWhy::Form),
+    ("register 18446744073709551616 a", 1, LineWhy::Form),
+    ("register 000000000000000000001 a", 1, LineWhy::Form),
+    ("register 0.4294967296 a", 1, LineWhy::Form),
+    ("register 0. a", 1, LineWhy::Form),
+    ("register 0.0.0 a", 1, LineWhy::Form),
+    ("register 0 +a", 1, LineWhy::Form),
+    ("register 0", 1, LineWhy::Form),
+    ("register -0 a", 1, LineWhy::Form),
+    ("send a", 1, LineWhy::Form),
+    ("send a 01", 1, LineWhy::Form),
+    ("send a -1", 1, LineWhy::Form),
+    ("send a 1234567890123456789", 1, LineWhy::Form),
+    ("send a \"x", 1, LineWhy::Form),
+    ("send a \"x\"y", 1, LineWhy::Form),
+    ("send a \"x\\n\"", 1, LineWhy::Form),
+    ("fail 1 2147483648 x", 1, LineWhy::Form),
+    ("fail 1 -2147483649 x", 1, LineWhy::Form),
+    ("fail 1 1 \"x\"", 1, LineWhy::Form),
+];
+
+/// The lines with a newline for each `/`.
+fn lines_of(alloc: Global, text: &str) -> Result<Vec<u8>, AllocError> {
+    let mut lines = text.as_bytes().to_vec(alloc)?;
+    for b in lines.iter_mut() {
+        if *b == b'/' {
+            *b = b'\n';
+        }
+    }
+    Ok(lines)
 }
 
 #[test]
 fn good_scripts(rt: HostRuntime) -> Result<(), Fail> {
-    for (input, output) in [
-        ("", ""),
-        ("finish", "refused 5 not holding\n"),
-        ("send news 1\n", "sent 0 to none\n"),
-        (
-            "context\nregister 0 news\nsend news \"hi\"\ntake own 0\nfinish\n",
-            "context 0\nconsumer 1\nsent 2 to 1\ndeliver 1 2 \"hi\"\nok\n",
-        ),
-        (
-            "context\nregister 0 a\nsend a 1\ntake own 0\ntake own 0\nfinish",
-            "context 0\nconsumer 1\nsent 2 to 1\ndeliver 1 2 1\nrefused 6 holding 3\nok\n",
-        ),
-        (
-            "context\nregister 0 a\nregister 0 a\nsend a 1\nsend a 2\nsend a 3\n",
-            "context 0\nconsumer 1\nconsumer 2\nsent 3 to 1\nsent 4 to 2\nsent 5 to 1\n",
-        ),
-        (
-            "\r\n# no call\n\n  context  \nregister 000  a \nsend a  \"x y\" \ntake own 7\ntake   own 0",
-            "context 0\nconsumer 1\nsent 2 to 1\nrefused 8 no lane\ndeliver 1 2 \"x y\"\n",
-        ),
-        (
-            "register 5 a\ntake own 5",
-            "refused 1 no context\nrefused 8 no lane\n",
-        ),
-        ("context\ntake own 0", "context 0\nidle\n"),
-    ] {
-        plays(
-            &rt,
-            rt.alloc(),
-            input.as_bytes(),
-            Status::Done,
-            output.as_bytes(),
-        )?;
+    let alloc = rt.alloc();
+    for (input, output) in GOOD {
+        let input = lines_of(alloc, input)?;
+        let output = lines_of(alloc, output)?;
+        plays(&rt, alloc, &input, Status::Done, &output)?;
     }
     Ok(())
 }
 
 #[test]
 fn bad_lines(rt: HostRuntime) -> Result<(), Fail> {
-    for (input, line) in [
-        (b"context\npass".as_slice(), 2),
-        (b"context\nfoo".as_slice(), 2),
-        (b"@1 pass".as_slice(), 1),
-        (b"context\r\n\n# fine\ncontext 1\nfoo".as_slice(), 4),
-        (b"   ".as_slice(), 1),
-        (b"\r".as_slice(), 1),
-        (b" # no comment".as_slice(), 1),
-        (b"# \xff".as_slice(), 1),
-        (b"context\xc3".as_slice(), 1),
-        (b"con\0text".as_slice(), 1),
-        (b"register 0000000000000000001 a".as_slice(), 1),
-        (b"register 0 +a".as_slice(), 1),
-        (b"register 0".as_slice(), 1),
-        (b"register -0 a".as_slice(), 1),
-        (b"send a".as_slice(), 1),
-        (b"send a 01".as_slice(), 1),
-        (b"send a -1".as_slice(), 1),
-        (b"send a \"x".as_slice(), 1),
-        (b"send a \"x\"y".as_slice(), 1),
-        (b"send a \"x\\n\"".as_slice(), 1),
-        (b"take own".as_slice(), 1),
-        (b"take pool 0".as_slice(), 1),
-        (b"finish\tall".as_slice(), 1),
+    let alloc = rt.alloc();
+    for (input, line, why) in BAD {
+        let input = lines_of(alloc, input)?;
+        plays(&rt, alloc, &input, bad(line, why), b"")?;
+    }
+    for input in [
+        b"# \xff".as_slice(),
+        b"context\xc3".as_slice(),
+        b"foo\xff".as_slice(),
     ] {
-        plays(&rt, rt.alloc(), input, bad(line), b"")?;
+        plays(&rt, alloc, input, bad(1, LineWhy::Utf8), b"")?;
     }
     Ok(())
 }
@@ -126,7 +247,38 @@ fn addresses_have_1024_bytes_at_most(rt: HostRuntime) -> Result<(), Fail> {
         b"refused 1 no context\n",
     )?;
     let longer = long_address(alloc, 1025)?;
-    plays(&rt, alloc, &longer, bad(1), b"")
+    plays(&rt, alloc, &longer, bad(1, LineWhy::Form), b"")
+}
+
+/// A request that is failed with a text of this length.
+fn long_failure(alloc: Global, len: usize) -> Result<Vec<u8>, AllocError> {
+    let mut input = Vec::new(alloc);
+    input.extend_from_slice(b"context\nregister 0 a\nrequest 0 a 1\ntake own 0\nfail 2 1 ")?;
+    for _ in 0..len {
+        input.push(b'x')?;
+    }
+    Ok(input)
+}
+
+#[test]
+fn failures_have_65536_bytes_at_most(rt: HostRuntime) -> Result<(), Fail> {
+    let alloc = rt.alloc();
+    let longest = long_failure(alloc, 65_536)?;
+    plays(
+        &rt,
+        alloc,
+        &longest,
+        Status::Done,
+        b"context 0\nconsumer 1\nasked 2 to 1\nrequest 1 2 1\nok\n",
+    )?;
+    let longer = long_failure(alloc, 65_537)?;
+    plays(
+        &rt,
+        alloc,
+        &longer,
+        Status::Done,
+        b"context 0\nconsumer 1\nasked 2 to 1\nrequest 1 2 1\nrefused 10 too large 65536\n",
+    )
 }
 
 #[test]
@@ -157,7 +309,15 @@ fn fault_lines(rt: HostRuntime) -> Result<(), Fail> {
     for (status, code, line) in [
         (Status::Done, 0, ""),
         (Status::Usage, 2, "vxscript: usage\n"),
-        (bad(2), 3, "vxscript: bad line 2: unbuilt\n"),
+        (bad(2, LineWhy::Utf8), 3, "vxscript: bad line 2: utf8\n"),
+        (bad(2, LineWhy::Pass), 3, "vxscript: bad line 2: pass\n"),
+        (bad(2, LineWhy::Word), 3, "vxscript: bad line 2: word\n"),
+        (
+            bad(2, LineWhy::Unbuilt),
+            3,
+            "vxscript: bad line 2: unbuilt\n",
+        ),
+        (bad(2, LineWhy::Form), 3, "vxscript: bad line 2: form\n"),
         (Status::ReadFault, 4, "vxscript: read fault\n"),
         (Status::WriteFault, 5, "vxscript: write fault\n"),
         (Status::TooLong(1), 6, "vxscript: too long\n"),

@@ -110,6 +110,13 @@ impl Timers {
         fire(&mut self.list, now.ms())
     }
 
+    /// How many timers there are.
+    pub fn count(&self) -> usize
+        ensures { result ≡ length self.now }
+    {
+        self.list.len()
+    }
+
     /// The least due moment.
     pub fn next_due(&self) -> Option<u64>
         ensures { result ≡ first_due self.now }

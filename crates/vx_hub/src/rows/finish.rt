@@ -1,16 +1,17 @@
-ghost use Rattle.std.specs.Prelude.{List};
+ghost use Rattle.std.specs.Prelude.{◌≤◌, List};
 ghost use Rattle.vx_call.specs.declared.call.Call.TheVariants as calls;
 ghost use Rattle.vx_call.specs.declared.history.Traced.{Traced};
-ghost use Rattle.vx_hub.specs.Stands.{ContextsStand, ContextsFollow, IsNext, finished};
+ghost use Rattle.vx_context.specs.Stands.{ContextsStand, ContextsFollow, IsNext};
+ghost use Rattle.vx_hub.specs.Stands.{finished};
 
-use crate::contexts::Contexts;
-use crate::refusals::not_holding;
 use vx_call::{End, Refusal};
+use vx_context::{Contexts, not_holding};
 use vx_data::PassNo;
 
 /// Ends the task that the pass holds.
 pub fn finish(contexts: &mut Contexts, pass: PassNo, end: End) -> Result<(), Refusal>
-    ensures { (history : List Traced) → ContextsStand contexts.old history → ContextsFollow contexts.new history pass (calls.Finish end) (finished result) }
+    ensures follows { (history : List Traced) → ContextsStand contexts.old history → ContextsFollow contexts.new history pass (calls.Finish end) (finished result) }
+    ensures room { contexts.old.room ≤ contexts.new.room }
 {
     match not_holding(contexts, pass) {
         Some(refusal) => Err(refusal),

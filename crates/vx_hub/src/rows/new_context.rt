@@ -1,28 +1,28 @@
 ghost use Rattle.std.specs.Prelude.{◌≡◌, List, IfOk, IfErr, OnErr};
 ghost use Rattle.vx_call.specs.declared.history.Traced.{Traced};
-ghost use Rattle.vx_hub.specs.Stands.{ContextsStand, ContextsFollow, IsNext};
+ghost use Rattle.vx_context.specs.Stands.{ContextsStand, ContextsFollow, IsNext};
 
-use crate::contexts::Contexts;
-use crate::refusals::already_holding;
-use crate::unmade::Unmade;
-use vx_call::{Call, Reply};
+use vx_call::{Call, Reply, Unmade};
+use vx_context::{Contexts, already_holding};
 use vx_data::{ContextId, EntryNo, PassNo};
+use vx_message::OutsideContext;
 
-/// Makes an outside context.
+/// Makes an outside context of the pass.
 pub fn new_context(contexts: &mut Contexts, at: EntryNo, pass: PassNo) -> Result<Reply, Unmade>
     ensures ok { IfOk result (λ reply. (history : List Traced) → ContextsStand contexts.old history → IsNext at history → ContextsFollow contexts.new history pass Call.NewContext reply) }
+    ensures room { contexts.new.room ≡ contexts.old.room }
     ensures err { OnErr result (contexts.new ≡ contexts.old) }
     ensures back { IfErr result (λ unmade. unmade.call ≡ Call.NewContext) }
 {
     if let Some(refusal) = already_holding(contexts, pass) {
         return Ok(Reply::Refused(refusal));
     }
-    let context = ContextId {
+    let id = ContextId {
         entry: at,
         instance: 0,
     };
-    match contexts.add(context) {
-        Ok(()) => Ok(Reply::Context(context)),
+    match contexts.add(OutsideContext { id, maker: pass }) {
+        Ok(()) => Ok(Reply::Context(id)),
         Err(_) => Err(Unmade {
             call: Call::NewContext,
         }),

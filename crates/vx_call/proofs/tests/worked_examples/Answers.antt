@@ -25,3 +25,27 @@ returns-clause-no_task c = refl
 pub returns-clause-misfits : goal.returns-clause-misfits
 unfolding lasting
 returns-clause-misfits c = refl
+
+pub returns-clause-handler_leaves : goal.returns-clause-handler_leaves
+unfolding lasting
+returns-clause-handler_leaves c = refl
+
+pub returns-clause-all_leave : goal.returns-clause-all_leave
+unfolding lasting
+returns-clause-all_leave c = refl
+
+pub returns-clause-two_replies : goal.returns-clause-two_replies
+unfolding lasting
+returns-clause-two_replies c = refl
+
+pub returns-clause-time_up : goal.returns-clause-time_up
+unfolding lasting
+returns-clause-time_up c = refl
+
+pub returns-clause-reply_asks : goal.returns-clause-reply_asks
+unfolding lasting
+returns-clause-reply_asks c = refl
+
+pub returns-clause-handler_lost : goal.returns-clause-handler_lost
+unfolding lasting
+returns-clause-handler_lost c = refl

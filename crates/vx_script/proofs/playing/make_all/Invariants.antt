@@ -5,9 +5,9 @@ use Rattle.vx_script.specs.declared.limit.TheConstants.{LIMIT}
 use Rattle.vx_script.proofs.Histories.{Goes}
 use Rattle.vx_script.proofs.playing.make_all.Given as goal
 
-abbrev pub invariant-loop-call : goal.invariant-loop-call
-invariant-loop-call g l = record {
-  goes : Goes (StandsFor l.hub) (g.K.Sink.held l.fn.sink) (g.K.Sink.held l.sink) l.at (into_iter_items l.call-iterator) l.fn.calls.items;
-  few : l.at + into_iter_len l.call-iterator ≤ LIMIT;
+abbrev pub invariant-loop-command : goal.invariant-loop-command
+invariant-loop-command g l = record {
+  goes : Goes (StandsFor l.hub) (g.K.Sink.held l.fn.sink) (g.K.Sink.held l.sink) l.at (into_iter_items l.command-iterator) l.fn.commands.items;
+  few : l.at + into_iter_len l.command-iterator ≤ LIMIT;
   later : g.K.Sink.faults l.fn.sink ≤ g.K.Sink.faults l.sink;
 }

@@ -1,5 +1,5 @@
 use Rattle.std.proofs.Common.{arith, rules}
-use Rattle.vx_script.proofs.Command.{one_word}
+use Rattle.vx_script.proofs.Arguments.{one_word}
 use Rattle.vx_script.proofs.running.is_run.Goals as goal
 
 pub returns-in-len1 : goal.returns-in-len1

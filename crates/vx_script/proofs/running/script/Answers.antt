@@ -1,3 +1,7 @@
+use Rattle.vx_laws.proofs.Deliveries.{delivered_once}
+use Rattle.vx_laws.proofs.Requests.{ended_once}
+use Rattle.vx_laws.proofs.Turns.{take_turns}
+use Rattle.vx_script.specs.Playing.{history_of}
 use Rattle.vx_script.proofs.LegalRuns.{legal_run}
 use Rattle.vx_script.proofs.Settled.{settled}
 use Rattle.vx_script.proofs.running.script.Goals as goal
@@ -5,6 +9,15 @@ use Rattle.vx_script.proofs.running.script.Goals as goal
 pub returns-clause-legal : goal.returns-clause-legal
 returns-clause-legal g c = legal_run
 
+pub returns-clause-delivered_once : goal.returns-clause-delivered_once
+returns-clause-delivered_once g c = λ bytes commands few ok. delivered_once (history_of commands) (legal_run bytes commands few ok)
+
+pub returns-clause-requests_end_once : goal.returns-clause-requests_end_once
+returns-clause-requests_end_once g c = λ bytes commands few ok. ended_once (history_of commands) (legal_run bytes commands few ok)
+
+pub returns-clause-handlers_take_turns : goal.returns-clause-handlers_take_turns
+returns-clause-handlers_take_turns g c = λ bytes commands few ok. take_turns (history_of commands) (legal_run bytes commands few ok)
+
 pub returns-clause-complete : goal.returns-clause-complete
-returns-clause-complete g c = λ bytes calls words told few ok reads writes.
-    settled c.run.result bytes calls _ _ _ (rw told at c.run.ensures.outcome) few ok (λ u. c.run.ensures.usage.0 u words) (λ u. reads (c.run.ensures.read_fault u)) (λ u. writes (c.run.ensures.write_fault u))
+returns-clause-complete g c = λ bytes commands words told few ok reads writes.
+    settled c.run.result bytes commands _ _ _ (rw told at c.run.ensures.outcome) few ok (λ u. c.run.ensures.usage.0 u words) (λ u. reads (c.run.ensures.read_fault u)) (λ u. writes (c.run.ensures.write_fault u))

@@ -1,22 +1,28 @@
-use Rattle.std.proofs.Common.{◌+◌, refl, subst}
+use Rattle.std.proofs.Common.{◌+◌, refl, subst, arith}
 use Rattle.vx_call.specs.declared.call.Call.TheVariants as calls
 use Rattle.vx_hub.specs.Stores.{HubStore}
 use Rattle.vx_hub.specs.Stands.{Meets, finished}
-use Rattle.vx_hub.proofs.Calls.{Rows, leaving_bus, meets, of_history_more}
+use Rattle.vx_hub.proofs.Calls.{Rows, keeping_time, leaving_bus, meets, of_history_more}
 use Rattle.vx_hub.proofs.hub.Hub.finish.Goals as goal
 
 abbrev old : goal.After-self-1 → HubStore
-old c = record { next = c.self.inside.next; contexts = c.self.inside.contexts; bus = c.self.inside.bus }
+old c = record { next = c.self.inside.next; passes = c.self.inside.passes; now = c.self.inside.now; contexts = c.self.inside.contexts; timers = c.self.inside.timers; bus = c.self.inside.bus }
 
 abbrev new : goal.After-self-1 → HubStore
-new c = record { next = c.self.inside.next + 1; contexts = c.finish-ended.new.contexts; bus = c.self.inside.bus }
+new c = record { next = c.self.inside.next + 1; passes = c.self.inside.passes; now = c.self.inside.now; contexts = c.finish-ended.new.contexts; timers = c.self.inside.timers; bus = c.self.inside.bus }
 
 row : (c : goal.After-self-1) → Rows (old c) (new c) c.args.pass (calls.Finish c.args.end) (finished c.finish-ended.result)
 row c = λ history stands is_next.
-    leaving_bus c.finish-ended.new.contexts c.self.inside.bus history c.args.pass (calls.Finish c.args.end) (finished c.finish-ended.result) refl stands.bus (c.finish-ended.ensures history stands.contexts)
+    keeping_time c.self.inside.passes c.self.inside.now c.finish-ended.new.contexts c.self.inside.timers c.self.inside.bus history c.args.pass (calls.Finish c.args.end) (finished c.finish-ended.result) refl
+    stands.passes stands.now
+    (leaving_bus c.finish-ended.new.contexts c.self.inside.timers c.self.inside.bus history c.args.pass (calls.Finish c.args.end) (finished c.finish-ended.result) refl
+    stands.stores.timers stands.stores.bus (c.finish-ended.ensures.follows history stands.stores.contexts))
 
 pub invariant_of-self : goal.invariant_of-self
-invariant_of-self c = of_history_more (old c) (new c) c.args.pass (calls.Finish c.args.end) (finished c.finish-ended.result) refl (row c) c.self.invariant
+invariant_of-self c = (
+  of_history_more (old c) (new c) c.args.pass (calls.Finish c.args.end) (finished c.finish-ended.result) refl (row c) c.self.invariant.0,
+  record { items = omega (arith, c.self.invariant.1.items, c.finish-ended.ensures.room); tasks = c.self.invariant.1.tasks },
+)
 
 pub returns : goal.returns
 returns c =

@@ -1,38 +1,63 @@
-use Rattle.std.proofs.Common.{[], ap, sym, ◌∙◌, refl}
-use Rattle.std.specs.Prelude.{map}
+use Rattle.std.proofs.Common.{◌+◌, [], ap, sym, ◌∙◌, refl, arith, max}
+use Rattle.std.specs.Prelude.{map, filter, length, find, fold}
 use Rattle.std.specs.List.{count_by, filter_map}
+use Rattle.std.specs.Option.{option_map}
 use Rattle.std.specs.Str.{bytes_eq}
+use Rattle.vx_message.specs.declared.Given.{Given}
+use Rattle.vx_call.specs.Names.{same_message}
+use Rattle.vx_call.specs.Passes.{pass_kind}
 use Rattle.vx_call.specs.Contexts.{context_kind}
-use Rattle.vx_call.specs.Consumers.{consumer_kind}
+use Rattle.vx_call.specs.Consumers.{consumer_kind, is_at}
 use Rattle.vx_call.specs.Choices.{choice_kind}
+use Rattle.vx_call.specs.Given.{given_kind}
+use Rattle.vx_call.specs.Requests.{open_kind, moment_kind, by_due}
+use Rattle.vx_call.specs.Settled.{Settled, settled_kind}
 use Rattle.vx_call.specs.Items.{item_kind}
 use Rattle.vx_call.specs.Held.{held_kind}
+use Rattle.vx_call.specs.Rows.{ids_of}
 use Rattle.vx_call.proofs.Lasting.{lasting_none}
 use Rattle.vx_call.proofs.Legal.{legal_none}
-use Rattle.vx_hub.specs.Stores.{ContextStore, BusStore, HubStore, item_of, parcel_of, choices_at}
+use Rattle.vx_context.specs.Stores.{ContextStore, item_of}
+use Rattle.vx_core_bus.specs.Stores.{task_of, row_of, timer_of}
+use Rattle.vx_hub.specs.Stores.{HubStore}
 use Rattle.vx_hub.specs.Stands.{HubStands}
 use Rattle.vx_hub.proofs.hub.Hub.new.Goals as goal
 
 -- a hub with empty stores is that of the empty history
-empty : (c : goal.After-new-2) → (let hub : HubStore = record { next = 0; contexts = c.new.result; bus = c.new-2.result } in HubStands hub [])
+empty : (c : goal.After-new-3) → (let hub : HubStore = record { next = 0; passes = 1; now = c.at.result; contexts = c.new.result; timers = c.new-2.result; bus = c.new-3.result } in HubStands hub [])
 empty c = record {
   next = refl;
-  stores = record {
-    contexts = record {
-      made = ap (λ (s : ContextStore). s.made) c.new.ensures ∙ sym (lasting_none context_kind);
-      held = ap (λ (s : ContextStore). s.held) c.new.ensures ∙ sym (lasting_none held_kind);
-      waiting = ap (λ (s : ContextStore). s.waiting) c.new.ensures ∙ ap (map item_of) (sym (lasting_none item_kind));
-    };
-    bus = record {
-      consumers = ap (λ (s : BusStore). s.consumers) c.new-2.ensures ∙ sym (lasting_none consumer_kind);
-      rounds = λ a. ap (λ (s : BusStore). choices_at a s.rounds) c.new-2.ensures ∙ ap (count_by (bytes_eq a)) (sym (lasting_none choice_kind));
-      parcels = ap (λ (s : BusStore). s.parcels) c.new-2.ensures ∙ ap (filter_map parcel_of) (sym (lasting_none item_kind));
+  parts = record {
+    passes = ap (λ ps. length ps + 1) (sym (lasting_none pass_kind));
+    now = c.at.ensures ∙ ap (fold max 0) (sym (lasting_none moment_kind));
+    stores = record {
+      contexts = record {
+        made = ap (λ (s : ContextStore). s.made) c.new.ensures ∙ sym (lasting_none context_kind);
+        held = ap (λ (s : ContextStore). s.held) c.new.ensures ∙ sym (lasting_none held_kind);
+        waiting = ap (λ (s : ContextStore). s.waiting) c.new.ensures ∙ ap (map item_of) (sym (lasting_none item_kind));
+      };
+      timers = c.new-2.ensures ∙ ap (λ rs. map timer_of (by_due rs)) (sym (lasting_none open_kind));
+      bus = record {
+        consumers = c.new-3.ensures.consumers ∙ sym (lasting_none consumer_kind);
+        rings = λ a. c.new-3.ensures.in_turn a ∙ ap (λ cs. ids_of (filter (is_at a) cs)) (sym (lasting_none consumer_kind));
+        choices = λ a. c.new-3.ensures.choices a ∙ ap (count_by (bytes_eq a)) (sym (lasting_none choice_kind));
+        tasks = c.new-3.ensures.tasks ∙ ap (filter_map task_of) (sym (lasting_none item_kind));
+        opened = c.new-3.ensures.requests ∙ ap (map row_of) (sym (lasting_none open_kind));
+        ended = λ id. c.new-3.ensures.ended id ∙ ap (λ ss. option_map (λ (s : Settled). s.at) (find (λ (s : Settled). same_message id s.request) ss)) (sym (lasting_none settled_kind));
+        given = λ id. c.new-3.ensures.given id ∙ ap (λ gs. find (λ (g : Given). same_message id g.id) gs) (sym (lasting_none given_kind));
+      };
     };
   };
 }
 
 pub invariant_of-result : goal.invariant_of-result
-invariant_of-result c = ∣ ([], empty c) ∣₁
+invariant_of-result c = (
+  ∣ ([], empty c) ∣₁,
+  record {
+    items = rw c.new-3.ensures.requests (omega arith);
+    tasks = rw c.new-3.ensures.requests (omega arith);
+  },
+)
 
 pub returns : goal.returns
 returns c = record { empty = record { parts = empty c; legal = legal_none } }

@@ -1,16 +1,16 @@
 use Rattle.std.proofs.Common.{ap, sym}
 use Rattle.vx_call.specs.declared.reply.Reply.TheVariants as replies
 use Rattle.vx_call.specs.Refusals.{unless_refused}
-use Rattle.vx_hub.proofs.Frames.{refused_contexts}
+use Rattle.vx_core_bus.proofs.Frames.{refused_contexts}
 use Rattle.vx_hub.proofs.RowFinish.{ends_task}
 use Rattle.vx_hub.proofs.rows.finish.finish.Goals as goal
 
-pub returns-in-Some : goal.returns-in-Some
-returns-in-Some c = λ history stands. record {
+pub returns-in-Some-clause-follows : goal.returns-in-Some-clause-follows
+returns-in-Some-clause-follows c = λ history stands. record {
   answered = ap (λ refusal. unless_refused refusal replies.Done) (c.in-Some.ensures history stands);
   stands = refused_contexts c.args.contexts.now history c.args.pass _ c.in-Some.refusal stands;
 }
 
-pub returns-in-None : goal.returns-in-None
-returns-in-None c = λ history stands.
-    ends_task c.args.contexts.now c.finish.new.self history c.args.pass c.args.end stands (sym (c.in-None.ensures history stands)) c.finish.ensures
+pub returns-in-None-clause-follows : goal.returns-in-None-clause-follows
+returns-in-None-clause-follows c = λ history stands.
+    ends_task c.args.contexts.now c.finish.new.self history c.args.pass c.args.end stands (sym (c.in-None.ensures history stands)) c.finish.ensures.ended

@@ -1,0 +1,16 @@
+pub mod Frames
+pub mod LostRows
+pub mod LiveChoices
+pub mod RowPublish
+pub mod Positions
+pub mod Chains
+pub mod RowRegister
+pub mod Turns
+pub mod RowSend
+pub mod Settling
+pub mod Asking
+pub mod RowRequest
+pub mod Selections
+pub mod UnregisterRequests
+pub mod UnregisterConsumers
+pub mod RowUnregister

@@ -1,0 +1,90 @@
+-- Choices are counted only at addresses that have handlers.
+use Rattle.std.proofs.Common.{◌≡◌, ℕ, List, [], ◌∷◌, ◌++◌, length, refl, ap, sym, ◌∙◌}
+use Rattle.std.specs.Prelude.{Bool, true, false, not, ◌&&◌, cond, filter}
+use Rattle.std.specs.Str.{bytes_eq}
+use Rattle.std.proofs.lemmas.List.Sums.{length-filter}
+use Rattle.std.proofs.lemmas.Slice.Eq.{bytes_eq-Decides}
+use Rattle.vx_data.specs.declared.ids.ConsumerId.{ConsumerId}
+use Rattle.vx_call.specs.declared.call.Call.{Call}
+use Rattle.vx_call.specs.declared.call.Call.TheVariants as calls
+use Rattle.vx_call.specs.declared.history.Consumer.{Consumer}
+use Rattle.vx_call.specs.declared.history.Traced.{Traced}
+use Rattle.vx_call.specs.History.{is_accepted, lasting}
+use Rattle.vx_call.specs.Consumers.{consumer_kind, consumer_made, ends, consumers, handlers, is_at}
+use Rattle.vx_call.specs.Choices.{is_empty, choice_kind, choice_made, chosen_at, choices}
+use Rattle.vx_call.proofs.Lasting.{lasting_same, and_false}
+use Rattle.vx_call.proofs.Each.{Each, weaken, accepted, lasting_each}
+
+-- some handler is at the address
+abbrev pub HasHandlers : List Traced → List ℕ → Type 0
+HasHandlers history address = is_empty (handlers history address) ≡ false
+
+-- where the consumers stay, so do the handlers
+stays_live : (history : List Traced) (new : Traced) (address : List ℕ) → consumers (history ++ new ∷ []) ≡ consumers history → HasHandlers history address → HasHandlers (history ++ new ∷ []) address
+stays_live history new address same live = ap (λ cs. is_empty (filter (is_at address) cs)) same ∙ live
+
+nothing_made : (b : Bool) → ◌≡◌ {A = List Consumer} (cond b [] []) []
+nothing_made true = refl
+nothing_made false = refl
+
+-- ## As an entry is added
+
+refused_consumers : (history : List Traced) (new : Traced) → is_accepted new.entry.reply ≡ false → consumers (history ++ new ∷ []) ≡ consumers history
+refused_consumers history new refused =
+    lasting_same consumer_kind history new
+    (ap (λ b. cond b (consumer_made history new.entry.call) []) refused)
+    (λ consumer. ap (λ b. b && ends history new.entry.call consumer.id) refused)
+
+keeps_live : (history : List Traced) (new : Traced) (address : List ℕ) →
+    (is_accepted new.entry.reply && (not (is_empty (handlers history address)) && is_empty (handlers (history ++ new ∷ []) address))) ≡ false → HasHandlers history address → HasHandlers (history ++ new ∷ []) address
+keeps_live history new address stays live =
+    let emptied = is_empty (handlers (history ++ new ∷ []) address) in
+    elim (is_accepted new.entry.reply) as (λ b. is_accepted new.entry.reply ≡ b → (b && (not (is_empty (handlers history address)) && emptied)) ≡ false → HasHandlers (history ++ new ∷ []) address) [
+      | true ↦ λ ok kept. ap (λ b. not b && emptied) (sym live) ∙ kept
+      | false ↦ λ refused kept. stays_live history new address (refused_consumers history new refused) live
+    ] refl stays
+
+-- a Send and a Request leave the consumers
+same_consumers : (history : List Traced) (new : Traced) (call : Call) → new.entry.call ≡ call → consumer_made history call ≡ [] → ((id : ConsumerId) → ends history call id ≡ false) → consumers (history ++ new ∷ []) ≡ consumers history
+same_consumers history new call is_call none kept =
+    lasting_same consumer_kind history new
+    (ap (λ k. cond (is_accepted new.entry.reply) (consumer_made history k) []) is_call ∙ ap (λ cs. cond (is_accepted new.entry.reply) cs []) none ∙ nothing_made (is_accepted new.entry.reply))
+    (λ consumer. ap (λ k. is_accepted new.entry.reply && ends history k consumer.id) is_call ∙ ap (λ b. is_accepted new.entry.reply && b) (kept consumer.id) ∙ and_false (is_accepted new.entry.reply))
+
+chosen_live : (history after : List Traced) (address : List ℕ) → (HasHandlers history address → HasHandlers after address) → Each (HasHandlers after) (chosen_at history address)
+chosen_live history after address stays =
+    elim (is_empty (handlers history address)) as (λ b. (b ≡ false → HasHandlers after address) → Each (HasHandlers after) (cond b [] (address ∷ []))) [
+      | true ↦ λ live. tt
+      | false ↦ λ live. (live refl, tt)
+    ] stays
+
+made_live : (history : List Traced) (new : Traced) (call : Call) → new.entry.call ≡ call → Each (HasHandlers (history ++ new ∷ [])) (choice_made history call)
+made_live history new (calls.Send address body) is_call =
+    chosen_live history (history ++ new ∷ []) address (stays_live history new address (same_consumers history new (calls.Send address body) is_call refl (λ id. refl)))
+made_live history new (calls.Request context address body timeout) is_call =
+    chosen_live history (history ++ new ∷ []) address (stays_live history new address (same_consumers history new (calls.Request context address body timeout) is_call refl (λ id. refl)))
+made_live history new _ is_call = tt
+
+pub choices_live : (history : List Traced) → Each (HasHandlers history) (lasting choice_kind history)
+choices_live = lasting_each choice_kind HasHandlers keeps_live
+    (λ history new. accepted (HasHandlers (history ++ new ∷ [])) (is_accepted new.entry.reply) (choice_made history new.entry.call) (λ ok. made_live history new new.entry.call refl))
+
+-- ## The count
+
+none_counted : (p : List ℕ → Bool) (xs : List (List ℕ)) → Each (λ x. p x ≡ false) xs → length (filter p xs) ≡ 0
+none_counted p [] none = refl
+none_counted p (x ∷ xs) none = ap (λ b. length (cond b (x ∷ filter p xs) (filter p xs))) none.0 ∙ none_counted p xs none.1
+
+other_address : (history : List Traced) (address other : List ℕ) → is_empty (handlers history address) ≡ true → HasHandlers history other → bytes_eq address other ≡ false
+other_address history address other none live =
+    elim (bytes_eq address other) as (λ b. (b ≡ true → address ≡ other) → b ≡ false) [
+      | true ↦ λ same. (let one : is_empty (handlers history address) ≡ is_empty (handlers history other) = ap (λ a. is_empty (handlers history a)) (same refl) in absurd cc)
+      | false ↦ λ same. refl
+    ] (bytes_eq-Decides address other).0
+
+-- where an address has no handlers, no choices are counted
+pub no_choices : (history : List Traced) (address : List ℕ) → is_empty (handlers history address) ≡ true → choices history address ≡ 0
+no_choices history address none =
+    sym (length-filter (bytes_eq address) (lasting choice_kind history))
+    ∙ none_counted (bytes_eq address) (lasting choice_kind history)
+    (weaken (HasHandlers history) (λ other. bytes_eq address other ≡ false) (lasting choice_kind history) (λ other live. other_address history address other none live) (choices_live history))

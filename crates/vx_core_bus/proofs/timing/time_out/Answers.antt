@@ -1,0 +1,36 @@
+use Rattle.std.proofs.Common.{◌≡◌, not, filter, sym, ap, ◌∙◌, arith, refl, Option, None, Some}
+use Rattle.vx_data.specs.declared.ids.ContextId.{ContextId}
+use Rattle.vx_request.specs.declared.requests.OpenRequest.{OpenRequest}
+use Rattle.vx_request.specs.Stores.{is_request}
+use Rattle.vx_request.proofs.Rows.{some_pass, all_counted}
+use Rattle.vx_core_bus.specs.Stores.{BusStore, asker_in}
+use Rattle.vx_core_bus.proofs.timing.time_out.Goals as goal
+
+asked_found : (found : Option OpenRequest) (asker : ContextId) → asker_in found ≡ Some asker → (row : OpenRequest) × (found ≡ Some row)
+asked_found None asker asked = cc
+asked_found (Some row) asker asked = (row, refl)
+
+pub returns-in-Some-clause-places : goal.returns-in-Some-clause-places
+returns-in-Some-clause-places c =
+    let test = is_request c.args.request in
+    let rows = c.args.bus.now.requests.waiting in
+    let found = asked_found _ _ (sym c.settle.ensures.asker ∙ c.in-Some.is) in
+    let passes = some_pass test rows found.0 found.1 in
+    let counted = all_counted test rows in
+    let left : c.put_outcome.new.bus.requests.waiting ≡ filter (λ row. not (test row)) rows = ap (λ (s : BusStore). s.requests.waiting) c.put_outcome.ensures.tasks ∙ c.settle.ensures.left in
+    let same : c.settle.new.self.room ≡ c.args.bus.now.room = ap (λ (s : BusStore). s.room) c.settle.ensures.same in
+    record {
+      items = rw left (omega (arith, passes, counted, c.requires.items, c.put_outcome.ensures.items_room));
+      tasks = rw left (omega (arith, passes, counted, same, c.requires.tasks, c.put_outcome.ensures.tasks_room));
+    }
+
+pub returns-in_default-clause-places : goal.returns-in_default-clause-places
+returns-in_default-clause-places c =
+    let test = is_request c.args.request in
+    let rows = c.args.bus.now.requests.waiting in
+    let counted = all_counted test rows in
+    let same : c.settle.new.self.room ≡ c.args.bus.now.room = ap (λ (s : BusStore). s.room) c.settle.ensures.same in
+    record {
+      items = rw c.settle.ensures.left (omega (arith, counted, c.requires.items));
+      tasks = rw c.settle.ensures.left (omega (arith, counted, same, c.requires.tasks));
+    }

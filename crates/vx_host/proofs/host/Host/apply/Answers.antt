@@ -1,0 +1,14 @@
+use Rattle.std.proofs.lemmas.Result.{IfOk-weaker}
+use Rattle.vx_turn.specs.Passes.{caller, caller_in}
+use Rattle.vx_host.specs.Calls.{Called}
+use Rattle.vx_host.proofs.Calls.{called_since}
+use Rattle.vx_host.proofs.host.Host.apply.Goals as goal
+
+pub returns-clause-called : goal.returns-clause-called
+returns-clause-called g c =
+    let before = caller c.args.pass in
+    let turn = caller_in c.enter-turn.result in
+    let after = caller c.apply_in.result.pass in
+    let came = c.enter-turn.ensures.came in
+    let same = c.enter-turn.ensures.entries in
+    IfOk-weaker c.apply_in.result.result (λ reply. Called turn c.args.call reply after) (λ reply. Called before c.args.call reply after) (λ reply called. called_since before turn after c.args.call reply came same called) c.apply_in.ensures.called

@@ -1,0 +1,175 @@
+-- Advance.
+use Rattle.std.proofs.Common.{◌≡◌, ℕ, ◌≤◌, ◌<◌, List, [], ◌∷◌, ◌++◌, length, take, drop, refl, ap, sym, ◌∙◌, subst, arith}
+use Rattle.std.specs.Prelude.{true, false, not, nat_le, max, map, filter, find}
+use Rattle.std.specs.List.{count_by, filter_map}
+use Rattle.std.specs.Option.{option_map, option_or}
+use Rattle.std.specs.Str.{bytes_eq}
+use Rattle.std.proofs.lemmas.Bool.Decides.{nat_tests}
+use Rattle.std.proofs.lemmas.List.{append-nil, map-append}
+use Rattle.std.proofs.lemmas.List.Folds.{find-append}
+use Rattle.std.proofs.lemmas.List.Elements.{filter_map-append, All-weaker}
+use Rattle.vx_data.specs.declared.ids.PassNo.{PassNo}
+use Rattle.vx_data.specs.declared.ids.MessageId.{MessageId}
+use Rattle.vx_message.specs.declared.Given.{Given}
+use Rattle.vx_timer.specs.declared.timers.Timer.{Timer}
+use Rattle.vx_ring.specs.Rings.{consumers_at, choices_at}
+use Rattle.vx_request.specs.Stores.{given_at}
+use Rattle.vx_call.specs.declared.call.Call.TheVariants as calls
+use Rattle.vx_call.specs.declared.reply.Reply.TheVariants as replies
+use Rattle.vx_call.specs.declared.history.Traced.{Traced}
+use Rattle.vx_call.specs.History.{plain_entry, lasting}
+use Rattle.vx_call.specs.Names.{next_entry, same_message}
+use Rattle.vx_call.specs.Contexts.{context_kind}
+use Rattle.vx_call.specs.Consumers.{consumer_kind, is_at}
+use Rattle.vx_call.specs.Choices.{choice_kind}
+use Rattle.vx_call.specs.Given.{given_kind}
+use Rattle.vx_call.specs.Requests.{Open, open_kind, now, unsettled, by_due}
+use Rattle.vx_call.specs.Settled.{Settled, settled_kind, timeout}
+use Rattle.vx_call.specs.Items.{item_kind, waiting, outcome_items}
+use Rattle.vx_call.specs.Held.{held_kind}
+use Rattle.vx_call.specs.Rows.{ids_of}
+use Rattle.vx_call.proofs.Lasting.{lasting_same, lasting_more, lasting-append}
+use Rattle.vx_call.proofs.Each.{Each, weaken}
+use Rattle.vx_call.proofs.Opened.{unsettled_apart, settlement, is_settled_as, settled-append}
+use Rattle.vx_call.proofs.ByDue.{is_up, length-by_due, by_due-filter, due_front, due_rest}
+use Rattle.vx_context.specs.Stores.{ContextStore, item_of}
+use Rattle.vx_context.specs.Stands.{ContextsStand}
+use Rattle.vx_core_bus.specs.Stores.{BusStore, task_of, row_of, timer_of}
+use Rattle.vx_core_bus.specs.Stands.{StoresStand, BusStands, TimersStand, Follows}
+use Rattle.vx_core_bus.proofs.Frames.{never_ended, none_emptied, never_taken_back}
+use Rattle.vx_hub.specs.Advancing.{Advanced, HasAdvanced, ended_first, is_among, timeouts}
+use Rattle.vx_hub.proofs.Requests.{map-or, map-map, find-map, filter_same, length-passing, among_passing, any-by_due}
+
+-- ## Those that have ended are those whose time is up
+
+due_now : (due moment : ℕ) → due ≤ moment → nat_le due moment ≡ true
+due_now due moment h = grind (arith, nat_tests)
+
+due_later : (due moment : ℕ) → moment < due → nat_le due moment ≡ false
+due_later due moment h = grind (arith, nat_tests)
+
+-- so many requests' time is up, which are the first so many
+record AreUp (history : List Traced) (moment : ℕ) (count : ℕ) : Type 0 where
+  counted : length (filter (is_up moment) (unsettled history)) ≡ count
+  front : by_due (filter (is_up moment) (unsettled history)) ≡ ended_first history count
+  rest : by_due (filter (λ request. not (is_up moment request)) (unsettled history)) ≡ drop count (by_due (unsettled history))
+  among : Each (λ request. not (is_among (ended_first history count) request) ≡ not (is_up moment request)) (unsettled history)
+
+are_up : (old_contexts contexts : ContextStore) (timers : List Timer) (old_bus bus : BusStore) (history : List Traced) (moment count : ℕ) → HasAdvanced old_contexts contexts timers old_bus bus history moment count → AreUp history moment count
+are_up old_contexts contexts timers old_bus bus history moment count has =
+    let all = unsettled history in
+    let up = is_up moment in
+    let front_up = All-weaker (λ (r : Open). r.due ≤ moment) (λ r. up r ≡ true) (λ r h. due_now r.due moment h) (ended_first history count) has.advanced.due in
+    let rest_later = All-weaker (λ (r : Open). moment < r.due) (λ r. up r ≡ false) (λ r h. due_later r.due moment h) (drop count (by_due all)) has.later in
+    let counted : length (filter up all) ≡ count =
+    sym (length-by_due (filter up all)) ∙ ap length (by_due-filter up all) ∙ length-passing up (by_due all) count has.advanced.within front_up rest_later in
+    let front : by_due (filter up all) ≡ ended_first history count = due_front moment all ∙ ap (λ n. take n (by_due all)) counted in
+    record {
+      counted = counted;
+      front = front;
+      rest = due_rest moment all ∙ ap (λ n. drop n (by_due all)) counted;
+      among = weaken (λ r. is_among (filter up all) r ≡ up r) (λ r. not (is_among (ended_first history count) r) ≡ not (up r)) all
+          (λ r known. ap not (ap (λ rs. is_among rs r) (sym front) ∙ any-by_due (λ (other : Open). same_message other.id r.id) (filter up all) ∙ known))
+          (among_passing up all (unsettled_apart history));
+    }
+
+-- ## The entry
+
+abbrev entry_of : PassNo → ℕ → ℕ → Traced
+entry_of pass moment count = plain_entry pass (calls.Advance moment) (replies.Fired count)
+
+abbrev after : List Traced → PassNo → ℕ → ℕ → List Traced
+after history pass moment count = history ++ entry_of pass moment count ∷ []
+
+-- the moment that the entry tells
+abbrev told : List Traced → ℕ → ℕ
+told history moment = max (now history) moment
+
+-- the requests that are open then
+still_open : (history : List Traced) (pass : PassNo) (moment count : ℕ) → unsettled (after history pass moment count) ≡ filter (λ request. not (is_up (told history moment) request)) (unsettled history)
+still_open history pass moment count = lasting-append open_kind history (entry_of pass moment count) ∙ append-nil _
+
+-- the tasks that wait then
+waiting_then : (history : List Traced) (pass : PassNo) (moment count : ℕ) → AreUp history (told history moment) count → waiting (after history pass moment count) ≡ waiting history ++ timeouts history count
+waiting_then history pass moment count up =
+    lasting_more item_kind history (entry_of pass moment count) (λ item. refl)
+    ∙ ap (λ (rs : List Open). waiting history ++ outcome_items 0 (map (settlement history timeout) rs)) up.front
+
+-- how a request has ended then
+ended_then : (history : List Traced) (pass : PassNo) (moment count : ℕ) (id : MessageId) → AreUp history (told history moment) count →
+    option_map (λ (s : Settled). s.at) (find (is_settled_as id) (lasting settled_kind (after history pass moment count)))
+    ≡ option_or (option_map (λ (s : Settled). s.at) (find (is_settled_as id) (lasting settled_kind history))) (option_map (λ _. next_entry history) (find (λ (r : Open). same_message id r.id) (ended_first history count)))
+ended_then history pass moment count id up =
+    let test = is_settled_as id in
+    let at = λ (s : Settled). s.at in
+    let before = lasting settled_kind history in
+    let settle = settlement history timeout in
+    ap (λ ss. option_map at (find test ss)) (settled-append history (entry_of pass moment count))
+    ∙ ap (λ (rs : List Open). option_map at (find test (before ++ map settle rs))) up.front
+    ∙ ap (option_map at) (find-append test before (map settle (ended_first history count)))
+    ∙ map-or at (find test before) (find test (map settle (ended_first history count)))
+    ∙ ap (λ o. option_or (option_map at (find test before)) (option_map at o)) (find-map test settle (ended_first history count))
+    ∙ ap (option_or (option_map at (find test before))) (map-map settle at (find (λ (r : Open). same_message id r.id) (ended_first history count)))
+
+-- ## The stores
+
+advanced_contexts : (old new : ContextStore) (history : List Traced) (pass : PassNo) (moment count : ℕ) → ContextsStand old history → AreUp history (told history moment) count →
+    new ≡ record old { waiting = old.waiting ++ map item_of (timeouts history count); room = new.room } → ContextsStand new (after history pass moment count)
+advanced_contexts old new history pass moment count stands up is_new =
+    let entry = entry_of pass moment count in
+    record {
+      made = ap (λ (s : ContextStore). s.made) is_new ∙ stands.made ∙ sym (lasting_same context_kind history entry refl (never_ended history entry));
+      held = ap (λ (s : ContextStore). s.held) is_new ∙ stands.held ∙ sym (lasting_same held_kind history entry refl (λ h. refl));
+      waiting = ap (λ (s : ContextStore). s.waiting) is_new
+          ∙ ap (λ ws. ws ++ map item_of (timeouts history count)) stands.waiting
+          ∙ sym (map-append item_of (waiting history) (timeouts history count))
+          ∙ ap (map item_of) (sym (waiting_then history pass moment count up));
+    }
+
+advanced_bus : (old_contexts contexts : ContextStore) (timers : List Timer) (old new : BusStore) (history : List Traced) (pass : PassNo) (moment count : ℕ) → BusStands old history → AreUp history (told history moment) count →
+    Advanced old_contexts contexts timers old new history (told history moment) count → BusStands new (after history pass moment count)
+advanced_bus old_contexts contexts timers old new history pass moment count stands up advanced =
+    let entry = entry_of pass moment count in
+    let same = lasting_same consumer_kind history entry refl (λ c. refl) in
+    let is_new = advanced.tasks in
+    record {
+      consumers = ap (λ (s : BusStore). s.consumers) is_new ∙ stands.consumers ∙ sym same;
+      rings = λ a. ap (λ (s : BusStore). consumers_at a s.rings) is_new ∙ stands.rings a ∙ ap (λ cs. ids_of (filter (is_at a) cs)) (sym same);
+      choices = λ a. ap (λ (s : BusStore). choices_at a s.rings) is_new ∙ stands.choices a ∙ ap (count_by (bytes_eq a)) (sym (lasting_same choice_kind history entry refl (none_emptied history entry same)));
+      tasks = ap (λ (s : BusStore). s.tasks) is_new
+          ∙ ap (λ ts. ts ++ filter_map task_of (timeouts history count)) stands.tasks
+          ∙ sym (filter_map-append task_of (waiting history) (timeouts history count))
+          ∙ ap (filter_map task_of) (sym (waiting_then history pass moment count up));
+      opened = advanced.left
+          ∙ ap (map row_of) (filter_same _ _ (unsettled history) up.among)
+          ∙ ap (map row_of) (sym (still_open history pass moment count));
+      ended = λ id. advanced.ended id
+          ∙ ap (λ o. option_or o (option_map (λ _. next_entry history) (find (λ (r : Open). same_message id r.id) (ended_first history count)))) (stands.ended id)
+          ∙ sym (ended_then history pass moment count id up);
+      given = λ id. ap (λ (s : BusStore). given_at id s.given) is_new ∙ stands.given id
+          ∙ ap (λ gs. find (λ (g : Given). same_message id g.id) gs) (sym (lasting_same given_kind history entry refl (never_taken_back history entry)));
+    }
+
+advanced_timers : (timers : List Timer) (history : List Traced) (pass : PassNo) (moment count : ℕ) → AreUp history (told history moment) count →
+    timers ≡ map timer_of (drop count (by_due (unsettled history))) → TimersStand timers (after history pass moment count)
+advanced_timers timers history pass moment count up are_timers =
+    are_timers ∙ ap (map timer_of) (sym up.rest) ∙ ap (λ rs. map timer_of (by_due rs)) (sym (still_open history pass moment count))
+
+-- ## The row
+
+-- the requests whose time is up by the moment have ended
+pub advances : (old_contexts contexts : ContextStore) (old_timers timers : List Timer) (old_bus bus : BusStore) (history : List Traced) (pass : PassNo) (moment by count : ℕ) →
+    StoresStand old_contexts old_timers old_bus history → by ≡ max (now history) moment → HasAdvanced old_contexts contexts timers old_bus bus history by count →
+    Follows contexts timers bus history pass (calls.Advance moment) (replies.Fired count)
+advances old_contexts contexts old_timers timers old_bus bus history pass moment by count stands is_by has_by =
+    let Has : ℕ → Type 0 = λ m. HasAdvanced old_contexts contexts timers old_bus bus history m count in
+    let has : Has (told history moment) = subst Has is_by has_by in
+    let up = are_up old_contexts contexts timers old_bus bus history (told history moment) count has in
+    record {
+      answered = ap replies.Fired (sym up.counted);
+      stores = record {
+        contexts = advanced_contexts old_contexts contexts history pass moment count stands.contexts up has.advanced.items;
+        timers = advanced_timers timers history pass moment count up has.advanced.timers;
+        bus = advanced_bus old_contexts contexts timers old_bus bus history pass moment count stands.bus up has.advanced;
+      };
+    }

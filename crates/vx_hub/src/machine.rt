@@ -1,0 +1,46 @@
+//! The hub under the turn: its history is that of all passes.
+use crate::hub::{Hub, LIMIT};
+use crate::rows::new_pass::new_pass;
+use vx_call::Traced;
+use vx_data::PassNo;
+use vx_turn::{Machine, Spent};
+
+impl Machine for Hub {
+    type Entry = Traced;
+
+    ghost use Rattle.vx_call.specs.Passes.{passes};
+    ghost use Rattle.vx_call.specs.Machine.{IsLegal};
+    ghost use Rattle.vx_hub.specs.Stands.{HubStands};
+    ghost use Rattle.vx_hub.specs.Passes.{pass_of, opens, one_at_first, passes_rise, opened_by, one_more};
+
+    ghost stands_for = { HubStands };
+
+    ghost legal = { IsLegal };
+
+    ghost pass_of = { pass_of };
+
+    ghost passes = { passes };
+
+    ghost opens = { opens };
+
+    fn count(&self) -> u64 {
+        self.next
+    }
+
+    fn new_pass(&mut self, pass: PassNo) -> Result<PassNo, Spent> {
+        if self.next >= LIMIT {
+            return Err(Spent);
+        }
+        let number = new_pass(&mut self.passes);
+        self.next += 1;
+        Ok(number)
+    }
+
+    ghost one_at_first = { one_at_first };
+
+    ghost never_falls = { passes_rise };
+
+    ghost opened_by = { opened_by };
+
+    ghost one_more = { one_more };
+}

@@ -1,0 +1,100 @@
+-- An outcome that waits is the one with which its request ended.
+use Rattle.std.proofs.Common.{◌≡◌, ℕ, List, [], ◌∷◌, ◌++◌, refl, ap, sym, ◌∙◌, subst, append_assoc}
+use Rattle.std.specs.Prelude.{true, false, cond, find, None, Some}
+use Rattle.std.specs.Option.{option_or}
+use Rattle.std.proofs.lemmas.Bool.{eq-eqb}
+use Rattle.std.proofs.lemmas.List.{append-nil}
+use Rattle.std.proofs.lemmas.List.Folds.{find-append}
+use Rattle.vx_data.specs.declared.ids.MessageId.{MessageId}
+use Rattle.vx_message.specs.declared.Lane.{Lane}
+use Rattle.vx_message.specs.declared.Outcome.{Outcome}
+use Rattle.vx_call.specs.declared.call.Call.{Call}
+use Rattle.vx_call.specs.declared.reply.Task.{Task}
+use Rattle.vx_call.specs.declared.reply.Task.TheVariants as tasks
+use Rattle.vx_call.specs.declared.history.Traced.{Traced}
+use Rattle.vx_call.specs.History.{is_accepted, made_by, lasting}
+use Rattle.vx_call.specs.Requests.{Open}
+use Rattle.vx_call.specs.Settled.{Settled, settled_made, settled_kind, settled}
+use Rattle.vx_call.specs.Items.{item_kind, item_made, waiting, outcome_item}
+use Rattle.vx_call.specs.Machine.{IsLegal}
+use Rattle.vx_call.proofs.Each.{Each, Each-both, weaken, accepted, by_entries, lasting_each}
+use Rattle.vx_call.proofs.Apart.{Apart}
+use Rattle.vx_call.proofs.Found.{find_front}
+use Rattle.vx_call.proofs.Opened.{same_number, each_settled, each_settled_by, is_settled_as, settled-append, next_unsettled, settled_open}
+use Rattle.vx_call.proofs.Waiting.{same_settled, settled_made_apart, each_item}
+use Rattle.vx_laws.specs.Outcomes.{HandsOutSettled}
+use Rattle.vx_laws.proofs.Splits.{Each-find}
+use Rattle.vx_laws.proofs.Handed.{Handed, handed}
+
+-- the request ended with this outcome
+abbrev pub EndedWith : List Traced → MessageId → Outcome → Type 0
+EndedWith history request outcome = (end : Settled) × (settled history request ≡ Some end) × (end.outcome ≡ outcome)
+
+keeps_settled : (history : List Traced) (new : Traced) (request : MessageId) (end : Settled) → settled history request ≡ Some end → settled (history ++ new ∷ []) request ≡ Some end
+keeps_settled history new request end known =
+    ap (find (is_settled_as request)) (settled-append history new) ∙ find_front (is_settled_as request) (lasting settled_kind history) (made_by settled_kind history new) end known
+
+settled_on : (history after : List Traced) (request : MessageId) (end : Settled) → settled history request ≡ Some end → settled (history ++ after) request ≡ Some end
+settled_on history after request end known =
+    let P : List Traced → Type 0 = λ h. settled h request ≡ Some end in
+    by_entries (λ later. settled (history ++ later) request ≡ Some end) (subst P (sym (append-nil history)) known)
+    (λ later new before. subst P (append_assoc history later (new ∷ [])) (keeps_settled (history ++ later) new request end before)) after
+
+abbrev IsEnded : List Traced → Task → Type 0
+IsEnded history (tasks.Deliver consumer message) = Unit {0}
+IsEnded history (tasks.Outcome request outcome) = EndedWith history request outcome
+
+keeps_ended : (history : List Traced) (new : Traced) (task : Task) → IsEnded history task → IsEnded (history ++ new ∷ []) task
+keeps_ended history new (tasks.Deliver consumer message) ended = tt
+keeps_ended history new (tasks.Outcome request outcome) ended = (ended.0, keeps_settled history new request ended.0 ended.1, ended.2)
+
+-- ## What an entry settles had not ended
+
+made_open : (history : List Traced) (call : Call) → Each (λ (s : Settled). settled history s.request ≡ None) (settled_made history call)
+made_open history call =
+    let IsOpen : Settled → Type 0 = λ s. settled history s.request ≡ None in
+    each_settled IsOpen history call
+    (each_settled_by (λ (request : Open). settled history request.id ≡ None) IsOpen history call (λ request outcome none. none) (settled_open history))
+    (λ context address body time is_call nobody. next_unsettled history)
+
+found_itself : (all : List Settled) → Apart same_settled all → Each (λ s. find (is_settled_as s.request) all ≡ Some s) all
+found_itself [] apart = tt
+found_itself (s ∷ others) apart = (
+  ap (λ b. cond b (Some s) (find (is_settled_as s.request) others)) (eq-eqb s.request.0.0 s.request.0.0 refl),
+  Each-both (λ o. same_settled s o ≡ false) (λ o. find (is_settled_as o.request) others ≡ Some o) (λ o. find (is_settled_as o.request) (s ∷ others) ≡ Some o) others
+      (λ o differs found. ap (λ b. cond b (Some s) (find (is_settled_as o.request) others)) (same_number o.request.0.0 s.request.0.0 ∙ differs) ∙ found)
+      apart.0 (found_itself others apart.1),
+)
+
+-- what an accepted entry settles has ended then
+made_settled : (history : List Traced) (new : Traced) → is_accepted new.entry.reply ≡ true → Each (λ s. settled (history ++ new ∷ []) s.request ≡ Some s) (settled_made history new.entry.call)
+made_settled history new ok =
+    let old = lasting settled_kind history in
+    let made = settled_made history new.entry.call in
+    let whole : lasting settled_kind (history ++ new ∷ []) ≡ old ++ made = settled-append history new ∙ ap (λ b. old ++ cond b made []) ok in
+    Each-both (λ s. settled history s.request ≡ None) (λ s. find (is_settled_as s.request) made ≡ Some s) (λ s. settled (history ++ new ∷ []) s.request ≡ Some s) made
+    (λ s none found. ap (find (is_settled_as s.request)) whole ∙ find-append (is_settled_as s.request) old made ∙ ap (λ o. option_or o (find (is_settled_as s.request) made)) none ∙ found)
+    (made_open history new.entry.call) (found_itself made (settled_made_apart history new.entry.call))
+
+new_ended : (history : List Traced) (new : Traced) → is_accepted new.entry.reply ≡ true → Each (λ item. IsEnded (history ++ new ∷ []) item.task) (item_made history new.entry.call)
+new_ended history new ok =
+    let after = history ++ new ∷ [] in
+    each_item (λ item. IsEnded after item.task) history new.entry.call (λ message place consumer is_next. tt)
+    (weaken (λ s. settled after s.request ≡ Some s) (λ s. (at : ℕ) → IsEnded after (outcome_item at s).task) (settled_made history new.entry.call) (λ s found at. (s, found, refl)) (made_settled history new ok))
+
+waiting_ended : (history : List Traced) → Each (λ item. IsEnded history item.task) (waiting history)
+waiting_ended =
+    lasting_each item_kind (λ history item. IsEnded history item.task) (λ history new item stays ended. keeps_ended history new item.task ended)
+    (λ history new. accepted (λ item. IsEnded (history ++ new ∷ []) item.task) (is_accepted new.entry.reply) (item_made history new.entry.call) (new_ended history new))
+
+-- ## What is handed out
+
+handed_ended : (history : List Traced) (i : ℕ) (lane : Lane) (request : MessageId) (outcome : Outcome) → Handed history i lane (tasks.Outcome request outcome) → EndedWith history request outcome
+handed_ended history i lane request outcome take =
+    let before : List Traced = take.before in
+    let then : IsEnded before (tasks.Outcome request outcome) =
+    subst (λ (t : Task). IsEnded before t) take.is_task (Each-find (λ item. IsEnded before item.task) _ (waiting before) take.item (waiting_ended before) take.found) in
+    (then.0, ap (λ (h : List Traced). settled h request) take.parts ∙ settled_on before (take.new ∷ take.after) request then.0 then.1, then.2)
+
+pub as_settled : (history : List Traced) → IsLegal history → HandsOutSettled history
+as_settled history legal = λ i lane request outcome takes. handed_ended history i lane request outcome (handed history i lane (tasks.Outcome request outcome) legal takes)

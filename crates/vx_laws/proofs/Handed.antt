@@ -1,0 +1,64 @@
+-- What a Take hands out had waited.
+use Rattle.std.proofs.Common.{◌≡◌, ℕ, List, ◌∷◌, ◌++◌, length, refl, ap, sym, ◌∙◌}
+use Rattle.std.specs.Prelude.{Option, None, Some}
+use Rattle.vx_data.specs.declared.ids.PassNo.{PassNo}
+use Rattle.vx_message.specs.declared.Lane.{Lane}
+use Rattle.vx_call.specs.declared.call.Call.TheVariants as calls
+use Rattle.vx_call.specs.declared.reply.Refusal.{Refusal}
+use Rattle.vx_call.specs.declared.reply.Reply.{Reply}
+use Rattle.vx_call.specs.declared.reply.Reply.TheVariants as replies
+use Rattle.vx_call.specs.declared.reply.Task.{Task}
+use Rattle.vx_call.specs.declared.history.Traced.{Traced}
+use Rattle.vx_call.specs.Items.{Waiting}
+use Rattle.vx_call.specs.Next.{next}
+use Rattle.vx_call.specs.Refusals.{unless_refused, spent}
+use Rattle.vx_call.specs.Rows.{take_refusal, handed_out}
+use Rattle.vx_call.specs.Machine.{IsLegal, answer}
+use Rattle.vx_laws.specs.Entries.{TakesAt}
+use Rattle.vx_laws.proofs.Splits.{Split, split_at}
+
+-- the history before a Take that hands out a task, the Take, and the item that waited
+pub record Handed (history : List Traced) (i : ℕ) (lane : Lane) (task : Task) : Type 0 where
+  pub before : List Traced
+  pub new : Traced
+  pub after : List Traced
+  pub parts : history ≡ before ++ new ∷ after
+  pub at : length before ≡ i
+  pub called : new.entry.call ≡ calls.Take lane
+  pub replied : new.entry.reply ≡ replies.Task task
+  pub item : Waiting
+  pub found : next before lane ≡ Some item
+  pub is_task : item.task ≡ task
+
+not_refused : (o : Option Refusal) (reply : Reply) (task : Task) → unless_refused o reply ≡ replies.Task task → reply ≡ replies.Task task
+not_refused None reply task h = h
+not_refused (Some refusal) reply task h = cc
+
+is_found : (o : Option Waiting) (task : Task) → handed_out o ≡ replies.Task task → (item : Waiting) × (o ≡ Some item) × (item.task ≡ task)
+is_found None task h = cc
+is_found (Some item) task h = (item, refl, cc)
+
+pub waited : (before : List Traced) (pass : PassNo) (lane : Lane) (task : Task) → replies.Task task ≡ answer before pass (calls.Take lane) →
+    (item : Waiting) × (next before lane ≡ Some item) × (item.task ≡ task)
+waited before pass lane task answered =
+    let reply = handed_out (next before lane) in
+    is_found (next before lane) task (not_refused (take_refusal before pass lane) reply task (not_refused (spent before) _ task (sym answered)))
+
+pub handed : (history : List Traced) (i : ℕ) (lane : Lane) (task : Task) → IsLegal history → TakesAt history i lane task → Handed history i lane task
+handed history i lane task legal takes =
+    let new : Traced = takes.entry in
+    let split : Split history i new = split_at history i new takes.is_there in
+    let answered : new.entry.reply ≡ answer split.before new.entry.pass new.entry.call = (legal split.before new split.after split.parts).answered in
+    let found = waited split.before new.entry.pass lane task (sym takes.replied ∙ answered ∙ ap (answer split.before new.entry.pass) takes.called) in
+    record {
+      before = split.before;
+      new = new;
+      after = split.after;
+      parts = split.parts;
+      at = split.at;
+      called = takes.called;
+      replied = takes.replied;
+      item = found.0;
+      found = found.1;
+      is_task = found.2;
+    }

@@ -1,0 +1,15 @@
+pub mod Splits
+pub mod Handed
+pub mod Gone
+pub mod Origins
+pub mod Deliveries
+pub mod Outcomes
+pub mod Ended
+pub mod Taken
+pub mod Nobody
+pub mod Lost
+pub mod Unheard
+pub mod Requests
+pub mod Rounds
+pub mod Chosen
+pub mod Turns

@@ -1,0 +1,4 @@
+pub mod Entries
+pub mod Deliveries
+pub mod Outcomes
+pub mod Turns

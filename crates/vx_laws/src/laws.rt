@@ -1,0 +1,22 @@
+//! What holds of every history in which each reply is the machine's.
+ghost use Rattle.std.specs.Prelude.{List};
+ghost use Rattle.vx_call.specs.declared.history.Traced.{Traced};
+ghost use Rattle.vx_call.specs.Machine.{IsLegal};
+ghost use Rattle.vx_laws.specs.Deliveries.{DeliversOnce};
+ghost use Rattle.vx_laws.specs.Outcomes.{EndsRequestsOnce};
+ghost use Rattle.vx_laws.specs.Turns.{TakesTurns};
+
+/// A message is taken once, or where it was published, once for each consumer.
+pub fn messages_are_delivered_once()
+    ensures { (history : List Traced) → IsLegal history → DeliversOnce history }
+{}
+
+/// A request has one outcome, which its asker takes once. Nobody gets the message of one that failed with NO_HANDLERS.
+pub fn requests_end_once()
+    ensures { (history : List Traced) → IsLegal history → EndsRequestsOnce history }
+{}
+
+/// Where the same consumers handle an address throughout, as many messages as there are consumers reach each of them once.
+pub fn handlers_take_turns()
+    ensures { (history : List Traced) → IsLegal history → TakesTurns history }
+{}

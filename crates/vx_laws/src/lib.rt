@@ -1,0 +1,6 @@
+//! Laws of every legal history of the Vert.x machine, which the machine's definitions alone imply.
+#![tactic(auto)]
+
+mod laws;
+
+pub use laws::{handlers_take_turns, messages_are_delivered_once, requests_end_once};

@@ -1,0 +1,10 @@
+//! Consumers at each address of an event bus, who take turns.
+#![tactic(auto)]
+
+mod ring;
+mod rings;
+
+pub use rings::Rings;
+
+#[cfg(test)]
+mod tests;

@@ -1,0 +1,40 @@
+-- How many passes there are after one more call.
+use Rattle.std.proofs.Common.{◌≡◌, ℕ, ◌+◌, ◌^◌, ◌<◌, List, [], ◌∷◌, ◌++◌, length, length-append, refl, ap, arith, tests, Bool, true, false, cond, ◌&&◌}
+use Rattle.vx_data.specs.declared.ids.PassNo.{PassNo}
+use Rattle.vx_data.specs.declared.ids.EntryNo.{EntryNo}
+use Rattle.vx_call.specs.declared.call.Call.{Call}
+use Rattle.vx_call.specs.declared.call.Call.TheVariants as calls
+use Rattle.vx_call.specs.declared.history.Traced.{Traced}
+use Rattle.vx_call.specs.History.{is_accepted, plain_entry, made_by, lasting}
+use Rattle.vx_call.specs.Refusals.{is_spent}
+use Rattle.vx_call.specs.Passes.{pass_kind, pass_made, passes}
+use Rattle.vx_call.specs.Machine.{answer}
+use Rattle.vx_call.proofs.Lasting.{lasting_more, lasting_none}
+use Rattle.vx_script.specs.Lines.{passes_with}
+
+-- below its limit a history goes on
+pub not_spent : (h : List Traced) → length h < 2 ^ 48 → is_spent h ≡ false
+not_spent h few = grind (arith, tests)
+
+none_made : (b : Bool) (none : List EntryNo) → none ≡ [] → length (cond b none []) ≡ 0
+none_made true none e = ap length e
+none_made false none e = refl
+
+-- how many passes a call makes
+made_by_call : (h : List Traced) (pass : PassNo) (call : Call) (n : ℕ) → is_spent h ≡ false → length (made_by pass_kind h (plain_entry pass call (answer h pass call))) + n ≡ passes_with n call
+made_by_call h pass calls.NewPass n e = rw e (omega arith)
+made_by_call h pass call n e = let k = none_made (is_accepted (answer h pass call)) (pass_made h call) refl in omega (arith, k)
+
+pub passes_more : (h : List Traced) (pass : PassNo) (call : Call) → length h < 2 ^ 48 → passes (h ++ plain_entry pass call (answer h pass call) ∷ []) ≡ passes_with (passes h) call
+passes_more h pass call few =
+    let new = plain_entry pass call (answer h pass call) in
+    let more = lasting_more pass_kind h new (λ x. never (is_accepted new.entry.reply)) in
+    let made = made_by_call h pass call (passes h) (not_spent h few) in
+    omega (arith, ap length more, length-append (lasting pass_kind h) (made_by pass_kind h new), made)
+  where
+    never : (b : Bool) → (b && false) ≡ false
+    never true = refl
+    never false = refl
+
+pub passes_none : passes [] ≡ 1
+passes_none = omega (arith, ap length (lasting_none pass_kind))

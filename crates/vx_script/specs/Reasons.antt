@@ -1,0 +1,55 @@
+-- Why a line in no form is bad. The language is this project's own.
+use Rattle.std.specs.Prelude.{ℕ, List, [], ◌∷◌, ◌++◌, map, Bool, ◌||◌, ◌&&◌, codes, if◌then◌else◌}
+use Rattle.std.specs.List.{list_any}
+use Rattle.std.specs.Str.{bytes_eq, is_utf8}
+use Rattle.vx_script.specs.declared.fault.LineWhy.{LineWhy}
+use Rattle.vx_script.specs.declared.fault.LineWhy.TheVariants.{Utf8, Pass, Word, Unbuilt, Form}
+use Rattle.vx_script.specs.Grammar as grammar
+use Rattle.vx_script.specs.Grammar.{forms, option_name}
+use Rattle.vx_script.specs.Reading.{without_spaces, first_word, behind_word, options_of, names_pass, behind_pass}
+
+-- the commands that later versions have
+abbrev pub later : List (List ℕ)
+later =
+    codes "loops" ∷ codes "deploy" ∷ codes "undeploy" ∷ codes "started" ∷ codes "stopped" ∷ codes "pause" ∷ codes "resume" ∷ codes "fetch" ∷ codes "timer" ∷ codes "every" ∷ codes "cancel"
+    ∷ codes "run" ∷ codes "block" ∷ codes "promise" ∷ codes "complete" ∷ codes "break" ∷ codes "compose" ∷ codes "await" ∷ codes "codec" ∷ codes "uncodec" ∷ codes "rule" ∷ codes "unrule"
+    ∷ codes "listen" ∷ codes "accepted" ∷ codes "open" ∷ codes "shut" ∷ codes "frame" ∷ codes "json" ∷ codes "out" ∷ codes "work" ∷ codes "close" ∷ []
+
+abbrev pub is_later : List ℕ → Bool
+is_later word = list_any (bytes_eq word) later
+
+-- What later versions have besides: commands, each with an option or a first piece behind it.
+abbrev pub later_fronts : List (List ℕ × List ℕ)
+later_fronts =
+    (codes "register", codes "+limit:") ∷ (codes "send", codes "+h:") ∷ (codes "send", codes "+codec:") ∷ (codes "publish", codes "+h:") ∷ (codes "publish", codes "+codec:")
+    ∷ (codes "request", codes "+h:") ∷ (codes "request", codes "+codec:") ∷ (codes "request", codes "+once") ∷ (codes "reply", codes "+h:") ∷ (codes "reply", codes "+codec:")
+    ∷ (codes "ask", codes "+h:") ∷ (codes "ask", codes "+codec:") ∷ (codes "take", codes "loop") ∷ (codes "take", codes "pool") ∷ (codes "finish", codes "later")
+    ∷ (codes "finish", codes "value") ∷ (codes "finish", codes "fail") ∷ (codes "finish", codes "nomemory") ∷ []
+
+-- what a tail begins with: the names of its options, and the first word behind them
+abbrev pub fronts : List ℕ → List (List ℕ)
+fronts tail = map option_name (options_of tail).words ++ first_word (without_spaces (options_of tail).rest) ∷ []
+
+unfoldable pub has_front : List ℕ → List ℕ → Bool
+has_front name tail = list_any (bytes_eq name) (fronts tail)
+
+-- whether a later version has what the tail behind this command begins with
+abbrev pub has_later_front : List ℕ → List ℕ → Bool
+has_later_front word tail = list_any (λ pair. bytes_eq word pair.0 && has_front pair.1 tail) later_fronts
+
+-- a command of this version
+abbrev pub is_built : List ℕ → Bool
+is_built word = list_any (λ (form : grammar.Form). bytes_eq word form.word) forms
+
+unfoldable pub word_reason : List ℕ → List ℕ → LineWhy
+word_reason word tail = if is_later word || has_later_front word tail then Unbuilt else if is_built word then Form else Word
+
+-- the same of a line from its first word on
+unfoldable pub command_reason : ℕ → List ℕ → LineWhy
+command_reason passes bytes =
+    if names_pass passes bytes then word_reason (first_word (behind_pass bytes)) (behind_word (behind_pass bytes)) else Pass
+
+-- The first of these reasons that holds: it is no UTF-8; it names no pass that is there; its command is no word of any
+-- version; only a later version has its command, an option or its first piece; it misfits the form of its command.
+unfoldable pub reason : ℕ → List ℕ → LineWhy
+reason passes line = if is_utf8 line then command_reason passes (without_spaces line) else Utf8
