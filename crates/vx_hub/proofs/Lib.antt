@@ -8,3 +8,5 @@ pub mod Calls
 pub mod Requests
 pub mod Advancing
 pub mod RowAdvance
+pub mod Crossing
+pub mod Looking
