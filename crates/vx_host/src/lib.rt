@@ -2,11 +2,8 @@
 #![tactic(auto)]
 
 mod host;
-#[cfg(test)]
-mod tests;
 mod turns;
 
 pub use host::{Applied, BusyCall, Host, Pass};
 pub use vx_call::Unmade;
-pub use vx_hub::Look;
 pub use vx_turn::Spent;

@@ -8,5 +8,3 @@ pub mod Calls
 pub mod Requests
 pub mod Advancing
 pub mod RowAdvance
-pub mod Crossing
-pub mod Looking

@@ -64,7 +64,7 @@ ready_there store history lane stands item =
     ap (λ b. b && not (runs_in store.held item.context)) (on_lane lane item) ∙ ap (λ hs. is_on lane item && not (runs_in hs item.context)) stands.held
 
 -- the store finds the next task at its place
-pub place_there : (store : ContextStore) (history : List Traced) (lane : Lane) → ContextsStand store history →
+place_there : (store : ContextStore) (history : List Traced) (lane : Lane) → ContextsStand store history →
     position (is_ready store.held lane) store.waiting ≡ position (λ (item : Waiting). is_on lane item && not (runs history item.context)) (waiting history)
 place_there store history lane stands =
     ap (position (is_ready store.held lane)) stands.waiting

@@ -27,8 +27,8 @@ pub struct Hub {
     pub(crate) next: u64,
     pub(crate) passes: u64,
     now: Moment,
-    pub(crate) contexts: Contexts,
-    pub(crate) timers: Timers,
+    contexts: Contexts,
+    timers: Timers,
     bus: Bus,
 }
 

@@ -2,12 +2,10 @@
 #![tactic(auto)]
 
 mod hub;
-mod look;
 mod machine;
 mod rows;
 #[cfg(test)]
 mod tests;
 
 pub use hub::Hub;
-pub use look::Look;
 pub use vx_call::Unmade;
