@@ -10,7 +10,7 @@ use Rattle.vx_message.specs.declared.ItemKind.{ItemKind}
 use Rattle.vx_message.specs.declared.ItemKind.TheVariants as kinds
 use Rattle.vx_message.specs.declared.Held.{Held}
 use Rattle.vx_message.specs.declared.OutsideContext.{OutsideContext}
-use Rattle.vx_call.specs.Names.{same_context, same_consumer}
+use Rattle.vx_data.specs.Ids.{same_context, same_consumer}
 use Rattle.vx_call.specs.Items.{Waiting, kind_of}
 use Rattle.vx_call.specs.Held.{is_of_context}
 

@@ -16,7 +16,7 @@ use Rattle.vx_call.specs.declared.reply.Reply.TheVariants as replies
 use Rattle.vx_call.specs.declared.history.Consumer.{Consumer}
 use Rattle.vx_call.specs.declared.history.Traced.{Traced}
 use Rattle.vx_call.specs.History.{lasting, plain_entry}
-use Rattle.vx_call.specs.Names.{same_consumer}
+use Rattle.vx_data.specs.Ids.{same_consumer}
 use Rattle.vx_call.specs.Consumers.{consumer_kind, consumers, handlers, is_named, is_at}
 use Rattle.vx_call.specs.Choices.{is_empty, choice_kind, is_emptied, choices}
 use Rattle.vx_call.specs.Refusals.{refused_if}
@@ -24,9 +24,10 @@ use Rattle.vx_call.specs.Rows.{ids_of}
 use Rattle.vx_call.proofs.Lasting.{lasting-append}
 use Rattle.vx_call.proofs.Each.{Each, weaken}
 use Rattle.vx_call.proofs.Apart.{Apart}
-use Rattle.vx_call.proofs.Waiting.{same_by_name, consumers_apart}
+use Rattle.vx_call.proofs.Filters.{filter_swap}
+use Rattle.vx_call.proofs.Consumers.{same_by_name, consumers_apart}
 use Rattle.vx_core_bus.proofs.LiveChoices.{no_choices}
-use Rattle.vx_core_bus.proofs.Selections.{every, filter_mapped, filter_swap, filter_without, count_kept}
+use Rattle.vx_core_bus.proofs.Selections.{every, filter_mapped, filter_without, count_kept}
 
 -- the history once a consumer has ended
 abbrev pub unregistered : List Traced → PassNo → ConsumerId → List Traced

@@ -12,7 +12,7 @@ use Rattle.vx_timer.specs.Order.{is_named}
 use Rattle.vx_request.specs.Stores.{is_request, ended_at, given_at}
 use Rattle.vx_call.specs.declared.reply.Task.{Task}
 use Rattle.vx_call.specs.declared.reply.Task.TheVariants as tasks
-use Rattle.vx_call.specs.Names.{same_message}
+use Rattle.vx_data.specs.Ids.{same_message}
 use Rattle.vx_call.specs.Settled.{no_handlers}
 use Rattle.vx_context.specs.Stores.{ContextStore}
 use Rattle.vx_core_bus.specs.Stores.{BusStore, asker_in}

@@ -4,11 +4,13 @@ ghost use Rattle.vx_call.specs.declared.call.Call.TheVariants as calls;
 ghost use Rattle.vx_call.specs.declared.reply.Refusal.TheVariants as refusals;
 ghost use Rattle.vx_call.specs.declared.reply.Reply.TheVariants as replies;
 ghost use Rattle.vx_call.specs.Plain.{is_plain, takes_no_memory};
+ghost use Rattle.vx_call.specs.Requests.{unsettled};
 ghost use Rattle.vx_call.specs.Machine.{IsLegal};
 ghost use Rattle.vx_turn.specs.Caller.{newcomer, Watched, Joined, KeepsEntries, SameEntries, IsBusy};
 ghost use Rattle.vx_turn.specs.Passes.{place, place_of, caller, number, numbers, seen};
 ghost use Rattle.vx_hub.specs.Passes.{pass_of};
 ghost use Rattle.vx_hub.specs.Stands.{finished};
+ghost use Rattle.vx_hub.specs.Looks.{look_at, least_due, totals_of};
 ghost use Rattle.vx_host.specs.Calls.{Called, AddedNothing};
 
 use crate::turns::{apply_in, finish_in, put_back, take_in};
@@ -16,8 +18,8 @@ use std::alloc::Global;
 use std::sync::Wait;
 use vx_call::{Call, End, Lane, Refusal, Reply, Unmade};
 use vx_data::NoMemory;
-use vx_hub::Hub;
-use vx_turn::{Busy, Shared, Spent};
+use vx_hub::{Hub, Look, Totals};
+use vx_turn::{Shared, Spent};
 
 /// A caller of a host. It is given to each call and comes back from it, so its calls come one after another.
 pub type Pass = vx_turn::Pass<Hub>;
@@ -86,17 +88,11 @@ impl Host {
         let number = pass.number();
         match self.shared.try_enter(pass) {
             Ok(turn) => Ok(apply_in(turn, number, call)),
-            Err(
-                Busy {
-                    pass,
-                    serving,
-                    ticket,
-                },
-            ) => Err(BusyCall {
-                pass,
+            Err(busy) => Err(BusyCall {
+                pass: busy.pass,
                 call,
-                serving,
-                ticket,
+                serving: busy.serving,
+                ticket: busy.ticket,
             }),
         }
     }
@@ -135,6 +131,42 @@ impl Host {
         let mut turn = self.shared.enter(rt, pass);
         let new = turn.split();
         (put_back(turn), new)
+    }
+
+    /// Waits for its turn and looks whether a lane has a next task. A look is no entry of the history.
+    pub fn look<R: Wait>(&self, rt: &R, pass: Pass, lane: Lane) -> (Pass, Look)
+        requires { place_of pass ≡ place self.now.shared }
+        ensures place { place_of result.0 ≡ place_of pass }
+        ensures adds_nothing { AddedNothing (caller pass) (caller result.0) }
+        ensures found { result.1 ≡ look_at (seen result.0) lane }
+    {
+        let mut turn = self.shared.enter(rt, pass);
+        let found = turn.machine().look(lane);
+        (put_back(turn), found)
+    }
+
+    /// Waits for its turn and looks when the first open request is due, in ms: none where no request is open. A look is no entry of the history.
+    pub fn look_due<R: Wait>(&self, rt: &R, pass: Pass) -> (Pass, Option<u64>)
+        requires { place_of pass ≡ place self.now.shared }
+        ensures place { place_of result.0 ≡ place_of pass }
+        ensures adds_nothing { AddedNothing (caller pass) (caller result.0) }
+        ensures found { result.1 ≡ least_due (unsettled (seen result.0)) }
+    {
+        let mut turn = self.shared.enter(rt, pass);
+        let found = turn.machine().look_due();
+        (put_back(turn), found)
+    }
+
+    /// Waits for its turn and counts what was done in the history. To count is no entry of the history.
+    pub fn totals<R: Wait>(&self, rt: &R, pass: Pass) -> (Pass, Totals)
+        requires { place_of pass ≡ place self.now.shared }
+        ensures place { place_of result.0 ≡ place_of pass }
+        ensures adds_nothing { AddedNothing (caller pass) (caller result.0) }
+        ensures found { result.1 ≡ totals_of (seen result.0) }
+    {
+        let mut turn = self.shared.enter(rt, pass);
+        let found = turn.machine().totals();
+        (put_back(turn), found)
     }
 
     /// Makes one pass of two: it has the number of `pass`, the entries of both, and has seen what either had seen.

@@ -2,8 +2,11 @@
 #![tactic(auto)]
 
 mod host;
+#[cfg(test)]
+mod tests;
 mod turns;
 
 pub use host::{Applied, BusyCall, Host, Pass};
 pub use vx_call::Unmade;
+pub use vx_hub::{Look, Totals};
 pub use vx_turn::Spent;

@@ -1,6 +1,6 @@
 -- From the row of a call to the hub's promise.
 use Rattle.std.proofs.Common.{◌≡◌, ℕ, ◌+◌, ◌-◌, ◌<◌, ◌^◌, min, max, List, [], ◌∷◌, ◌++◌, length, refl, ap, sym, ◌∙◌, subst, rules, tests}
-use Rattle.std.specs.Prelude.{Bool, true, false, ◌&&◌, cond, nat_le, fold}
+use Rattle.std.specs.Prelude.{Bool, true, false, cond, nat_le, fold}
 use Rattle.std.proofs.lemmas.List.{length_push}
 use Rattle.std.proofs.lemmas.List.Sums.{fold-append}
 use Rattle.std.proofs.Math.Logic.{∥∥₁_map}
@@ -18,16 +18,19 @@ use Rattle.vx_call.specs.Requests.{moment_kind, moment_made, now}
 use Rattle.vx_call.specs.Refusals.{unless_refused, refused_if, is_spent}
 use Rattle.vx_call.specs.Machine.{row, answer}
 use Rattle.vx_call.specs.Plain.{is_plain}
-use Rattle.vx_call.proofs.Lasting.{lasting_same, lasting_more}
+use Rattle.vx_call.proofs.Lasting.{lasting_same, lasting_more, and_false}
 use Rattle.vx_call.proofs.Legal.{legal_more}
 use Rattle.vx_call.proofs.Refused.{refused_unchanged}
 use Rattle.vx_context.specs.Stores.{ContextStore}
 use Rattle.vx_context.specs.Stands.{ContextsFollow}
 use Rattle.vx_core_bus.specs.Stores.{BusStore, is_bus_call}
 use Rattle.vx_core_bus.specs.Stands.{Follows, BusStands, TimersStand, AreOfOneHistory}
-use Rattle.vx_core_bus.proofs.Frames.{contexts_left, timers_left, bus_left}
+use Rattle.vx_call.proofs.Mailboxes.{mailbox_unmoved}
+use Rattle.vx_core_bus.proofs.Frames.{LeavesBus, contexts_left, timers_left, numbers_left, bus_left}
+use Rattle.vx_hub.specs.Counts.{Counted, with_entry}
 use Rattle.vx_hub.specs.Stores.{HubStore}
 use Rattle.vx_hub.specs.Stands.{PartsStand, PartsFollow, HubStands, StandsFor, Meets, IsOfHistory}
+use Rattle.vx_hub.proofs.Counting.{counted_more, entries_of}
 use Rattle.vx_hub.proofs.RowNewPass.{passes_left, more_passes}
 
 -- ## Passes and time
@@ -35,10 +38,6 @@ use Rattle.vx_hub.proofs.RowNewPass.{passes_left, more_passes}
 either : {A : Type 0} (b : Bool) (x : A) → cond b x x ≡ x
 either true x = refl
 either false x = refl
-
-never : (b : Bool) → (b && false) ≡ false
-never true = refl
-never false = refl
 
 -- the calls that make no pass and tell no time
 abbrev pub keeps_time : Call → Bool
@@ -60,7 +59,7 @@ bus_keeps_time (calls.Advance moment) own = cc
 bus_keeps_time _ own = refl
 
 pub moment_stays : (history : List Traced) (new : Traced) (moment : ℕ) → ended_by moment_kind history new moment ≡ false
-moment_stays history new moment = never (is_accepted new.entry.reply)
+moment_stays history new moment = and_false (is_accepted new.entry.reply)
 
 pub now_left : (history : List Traced) (new : Traced) → made_by moment_kind history new ≡ [] → now (history ++ new ∷ []) ≡ now history
 now_left history new none = ap (fold max 0) (lasting_same moment_kind history new none (moment_stays history new))
@@ -86,43 +85,53 @@ leaves_bus calls.NewContext = true
 leaves_bus (calls.Finish end) = true
 leaves_bus _ = false
 
+-- an entry of one of them leaves all that the bus keeps
+pub untouched : (history : List Traced) (pass : PassNo) (call : Call) (reply : Reply) → leaves_bus call ≡ true → LeavesBus history (plain_entry pass call reply)
+untouched history pass calls.NewPass reply leaves = let entry = plain_entry pass calls.NewPass reply in record {
+  consumers = record { registered = either (is_accepted reply) []; kept = λ c. and_false (is_accepted reply) };
+  numbers = numbers_left history entry (λ c. mailbox_unmoved history entry c refl);
+  choices = either (is_accepted reply) [];
+  tasks = record { made = either (is_accepted reply) []; kept = λ t. and_false (is_accepted reply) };
+  requests = record { opened = either (is_accepted reply) []; settled = λ r. and_false (is_accepted reply) };
+  settled = either (is_accepted reply) [];
+  given = either (is_accepted reply) [];
+  codecs = record { added = either (is_accepted reply) []; kept = λ c. and_false (is_accepted reply) };
+  rules = record { added = either (is_accepted reply) []; kept = λ r. and_false (is_accepted reply) };
+}
+untouched history pass calls.NewContext reply leaves = let entry = plain_entry pass calls.NewContext reply in record {
+  consumers = record { registered = either (is_accepted reply) []; kept = λ c. and_false (is_accepted reply) };
+  numbers = numbers_left history entry (λ c. mailbox_unmoved history entry c refl);
+  choices = either (is_accepted reply) [];
+  tasks = record { made = either (is_accepted reply) []; kept = λ t. and_false (is_accepted reply) };
+  requests = record { opened = either (is_accepted reply) []; settled = λ r. and_false (is_accepted reply) };
+  settled = either (is_accepted reply) [];
+  given = either (is_accepted reply) [];
+  codecs = record { added = either (is_accepted reply) []; kept = λ c. and_false (is_accepted reply) };
+  rules = record { added = either (is_accepted reply) []; kept = λ r. and_false (is_accepted reply) };
+}
+untouched history pass (calls.Finish end) reply leaves = let entry = plain_entry pass (calls.Finish end) reply in record {
+  consumers = record { registered = either (is_accepted reply) []; kept = λ c. and_false (is_accepted reply) };
+  numbers = numbers_left history entry (λ c. mailbox_unmoved history entry c refl);
+  choices = either (is_accepted reply) [];
+  tasks = record { made = either (is_accepted reply) []; kept = λ t. and_false (is_accepted reply) };
+  requests = record { opened = either (is_accepted reply) []; settled = λ r. and_false (is_accepted reply) };
+  settled = either (is_accepted reply) [];
+  given = either (is_accepted reply) [];
+  codecs = record { added = either (is_accepted reply) []; kept = λ c. and_false (is_accepted reply) };
+  rules = record { added = either (is_accepted reply) []; kept = λ r. and_false (is_accepted reply) };
+}
+untouched history pass _ reply leaves = absurd cc
+
 bus_untouched : (store : BusStore) (history : List Traced) (pass : PassNo) (call : Call) (reply : Reply) → leaves_bus call ≡ true → BusStands store history → BusStands store (history ++ plain_entry pass call reply ∷ [])
-bus_untouched store history pass calls.NewPass reply leaves stands = bus_left store history (plain_entry pass calls.NewPass reply) (record {
-  consumers = either (is_accepted reply) [];
-  ended = λ c. never (is_accepted reply);
-  choices = either (is_accepted reply) [];
-  waiting = record { none = either (is_accepted reply) []; kept = λ x. never (is_accepted reply) };
-  requests = record { opened = either (is_accepted reply) []; settled = λ r. never (is_accepted reply) };
-  settled = either (is_accepted reply) [];
-  given = either (is_accepted reply) [];
-}) stands
-bus_untouched store history pass calls.NewContext reply leaves stands = bus_left store history (plain_entry pass calls.NewContext reply) (record {
-  consumers = either (is_accepted reply) [];
-  ended = λ c. never (is_accepted reply);
-  choices = either (is_accepted reply) [];
-  waiting = record { none = either (is_accepted reply) []; kept = λ x. never (is_accepted reply) };
-  requests = record { opened = either (is_accepted reply) []; settled = λ r. never (is_accepted reply) };
-  settled = either (is_accepted reply) [];
-  given = either (is_accepted reply) [];
-}) stands
-bus_untouched store history pass (calls.Finish end) reply leaves stands = bus_left store history (plain_entry pass (calls.Finish end) reply) (record {
-  consumers = either (is_accepted reply) [];
-  ended = λ c. never (is_accepted reply);
-  choices = either (is_accepted reply) [];
-  waiting = record { none = either (is_accepted reply) []; kept = λ x. never (is_accepted reply) };
-  requests = record { opened = either (is_accepted reply) []; settled = λ r. never (is_accepted reply) };
-  settled = either (is_accepted reply) [];
-  given = either (is_accepted reply) [];
-}) stands
-bus_untouched store history pass _ reply leaves stands = absurd cc
+bus_untouched store history pass call reply leaves stands = bus_left store history (plain_entry pass call reply) (untouched history pass call reply leaves) stands
 
 timers_untouched : (timers : List Timer) (history : List Traced) (pass : PassNo) (call : Call) (reply : Reply) → leaves_bus call ≡ true → TimersStand timers history → TimersStand timers (history ++ plain_entry pass call reply ∷ [])
 timers_untouched timers history pass calls.NewPass reply leaves stands =
-    timers_left timers history (plain_entry pass calls.NewPass reply) (record { opened = either (is_accepted reply) []; settled = λ r. never (is_accepted reply) }) stands
+    timers_left timers history (plain_entry pass calls.NewPass reply) (record { opened = either (is_accepted reply) []; settled = λ r. and_false (is_accepted reply) }) stands
 timers_untouched timers history pass calls.NewContext reply leaves stands =
-    timers_left timers history (plain_entry pass calls.NewContext reply) (record { opened = either (is_accepted reply) []; settled = λ r. never (is_accepted reply) }) stands
+    timers_left timers history (plain_entry pass calls.NewContext reply) (record { opened = either (is_accepted reply) []; settled = λ r. and_false (is_accepted reply) }) stands
 timers_untouched timers history pass (calls.Finish end) reply leaves stands =
-    timers_left timers history (plain_entry pass (calls.Finish end) reply) (record { opened = either (is_accepted reply) []; settled = λ r. never (is_accepted reply) }) stands
+    timers_left timers history (plain_entry pass (calls.Finish end) reply) (record { opened = either (is_accepted reply) []; settled = λ r. and_false (is_accepted reply) }) stands
 timers_untouched timers history pass _ reply leaves stands = absurd cc
 
 pub leaving_bus : (contexts : ContextStore) (timers : List Timer) (bus : BusStore) (history : List Traced) (pass : PassNo) (call : Call) (reply : Reply) → leaves_bus call ≡ true → TimersStand timers history → BusStands bus history →
@@ -143,13 +152,13 @@ below n m lt = search (rules, tests)
 
 -- what a row promises in each history that the parts are those of
 abbrev pub Rows : HubStore → HubStore → PassNo → Call → Reply → Type 0
-Rows old new pass call reply = (history : List Traced) → PartsStand old.passes old.now old.contexts old.timers old.bus history → old.next ≡ length history → PartsFollow new.passes new.now new.contexts new.timers new.bus history pass call reply
+Rows old new pass call reply = (history : List Traced) → PartsStand old.passes old.now old.contexts old.timers old.bus history → old.counts.entries ≡ length history → PartsFollow new.passes new.now new.contexts new.timers new.bus history pass call reply
 
 -- a row's entry goes on with the history
-pub parts_more : (old new : HubStore) (history : List Traced) (pass : PassNo) (call : Call) (reply : Reply) → HubStands old history → new.next ≡ old.next + 1 →
+pub parts_more : (old new : HubStore) (history : List Traced) (pass : PassNo) (call : Call) (reply : Reply) → HubStands old history → new.counts ≡ with_entry old.counts call reply →
     PartsFollow new.passes new.now new.contexts new.timers new.bus history pass call reply → HubStands new (history ++ plain_entry pass call reply ∷ [])
 parts_more old new history pass call reply stands more follows = record {
-  next = more ∙ ap (λ n. n + 1) stands.next ∙ sym (length_push history (plain_entry pass call reply));
+  counts = more ∙ ap (λ counts. with_entry counts call reply) stands.counts ∙ sym (counted_more history pass call reply);
   parts = follows.parts;
 }
 
@@ -162,11 +171,11 @@ row_answers history pass call reply short follows =
     let unspent = is_unspent history short in
     follows ∙ ap (λ b. unless_refused (refused_if b refusals.Spent) (row history pass call)) (sym unspent)
 
-pub meets : (old new : HubStore) (pass : PassNo) (call : Call) (reply : Reply) → old.next < 2 ^ 48 → new.next ≡ old.next + 1 → Rows old new pass call reply → Meets old new pass call reply
+pub meets : (old new : HubStore) (pass : PassNo) (call : Call) (reply : Reply) → old.counts.entries < 2 ^ 48 → new.counts ≡ with_entry old.counts call reply → Rows old new pass call reply → Meets old new pass call reply
 meets old new pass call reply small more rows = λ history stands known.
-    let short : length history < 2 ^ 48 = (let P : ℕ → Type 0 = λ n. n < 2 ^ 48 in subst P stands.parts.next small) in
+    let short : length history < 2 ^ 48 = (let P : ℕ → Type 0 = λ n. n < 2 ^ 48 in subst P (entries_of old history stands.parts) small) in
     let unspent = is_unspent history short in
-    let follows = rows history stands.parts.parts stands.parts.next in
+    let follows = rows history stands.parts.parts (entries_of old history stands.parts) in
     let answers = row_answers history pass call reply short follows.answered in
     record {
       answered = answers;
@@ -180,15 +189,15 @@ meets old new pass call reply small more rows = λ history stands known.
     }
 
 -- the hub is still that of some history
-pub of_history_more : (old new : HubStore) (pass : PassNo) (call : Call) (reply : Reply) → new.next ≡ old.next + 1 → Rows old new pass call reply → IsOfHistory old → IsOfHistory new
+pub of_history_more : (old new : HubStore) (pass : PassNo) (call : Call) (reply : Reply) → new.counts ≡ with_entry old.counts call reply → Rows old new pass call reply → IsOfHistory old → IsOfHistory new
 of_history_more old new pass call reply more rows one =
-    ∥∥₁_map one (λ p. (p.0 ++ plain_entry pass call reply ∷ [], parts_more old new p.0 pass call reply p.1 more (rows p.0 p.1.parts p.1.next)))
+    ∥∥₁_map one (λ p. (p.0 ++ plain_entry pass call reply ∷ [], parts_more old new p.0 pass call reply p.1 more (rows p.0 p.1.parts (entries_of old p.0 p.1))))
 
 -- ## Want of memory
 
-pub of_history_still : (old new : HubStore) → new.next ≡ old.next →
+pub of_history_still : (old new : HubStore) → new.counts ≡ old.counts →
     ((history : List Traced) → PartsStand old.passes old.now old.contexts old.timers old.bus history → PartsStand new.passes new.now new.contexts new.timers new.bus history) → IsOfHistory old → IsOfHistory new
-of_history_still old new same keeps one = ∥∥₁_map one (λ p. (p.0, record { next = same ∙ p.1.next; parts = keeps p.0 p.1.parts }))
+of_history_still old new same keeps one = ∥∥₁_map one (λ p. (p.0, record { counts = same ∙ p.1.counts; parts = keeps p.0 p.1.parts }))
 
 pub of_one_history : (hub : HubStore) → IsOfHistory hub → AreOfOneHistory hub.contexts hub.timers hub.bus
 of_one_history hub one = ∥∥₁_map one (λ p. (p.0, p.1.parts.stores))

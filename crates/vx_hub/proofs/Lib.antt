@@ -4,7 +4,10 @@ pub mod RowNewPass
 pub mod RowNewContext
 pub mod RowFinish
 pub mod RowTake
+pub mod Counting
 pub mod Calls
 pub mod Requests
 pub mod Advancing
 pub mod RowAdvance
+pub mod Crossing
+pub mod Looking

@@ -1,5 +1,5 @@
 -- The histories that a hub stands for.
-use Rattle.std.specs.Prelude.{◌≡◌, ℕ, ◌<◌, false, List, [], ◌∷◌, ◌++◌, length, Result, Ok, Err}
+use Rattle.std.specs.Prelude.{◌≡◌, ℕ, ◌<◌, false, List, [], ◌∷◌, ◌++◌, Result, Ok, Err}
 use Rattle.vx_data.specs.declared.ids.PassNo.{PassNo}
 use Rattle.vx_timer.specs.declared.timers.Timer.{Timer}
 use Rattle.vx_call.specs.declared.call.Call.{Call}
@@ -15,6 +15,7 @@ use Rattle.vx_call.specs.Unchanged.{IsUnchanged}
 use Rattle.vx_context.specs.Stores.{ContextStore}
 use Rattle.vx_core_bus.specs.Stores.{BusStore}
 use Rattle.vx_core_bus.specs.Stands.{StoresStand}
+use Rattle.vx_hub.specs.Counts.{counted}
 use Rattle.vx_hub.specs.Stores.{HubStore}
 
 -- ## The hub
@@ -25,9 +26,9 @@ pub record PartsStand (pass_count : ℕ) (moment : ℕ) (context_store : Context
   pub now : moment ≡ now history
   pub stores : StoresStand context_store timer_list bus_store history
 
--- the hub's number of entries and its parts are those of the history
+-- what the hub has counted and its parts are those of the history
 pub record HubStands (hub : HubStore) (history : List Traced) : Type 0 where
-  pub next : hub.next ≡ length history
+  pub counts : hub.counts ≡ counted history
   pub parts : PartsStand hub.passes hub.now hub.contexts hub.timers hub.bus history
 
 -- The hub stands for a history: its parts are those of the history, and each reply in the history is the machine's.

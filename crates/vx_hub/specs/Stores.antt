@@ -3,10 +3,11 @@ use Rattle.std.specs.Prelude.{ℕ, List}
 use Rattle.vx_timer.specs.declared.timers.Timer.{Timer}
 use Rattle.vx_context.specs.Stores.{ContextStore}
 use Rattle.vx_core_bus.specs.Stores.{BusStore}
+use Rattle.vx_hub.specs.Counts.{Counted}
 
--- how many entries and how many passes there are, the moment in ms, and the stores
+-- what is counted, how many passes there are, the moment in ms, and the stores
 pub record HubStore : Type 0 where
-  pub next : ℕ
+  pub counts : Counted
   pub passes : ℕ
   pub now : ℕ
   pub contexts : ContextStore

@@ -5,6 +5,7 @@ ghost use Rattle.vx_context.specs.Stands.{IsNext};
 ghost use Rattle.vx_core_bus.specs.Stands.{HavePlaces, AreOfOneHistory};
 ghost use Rattle.vx_hub.specs.Stands.{StandsFor, PartsStand, PartsFollow, Meets, Keeps, finished};
 
+use crate::counts::{Counts, delivers, has_made, makes_message};
 use crate::rows::advance::advance;
 use crate::rows::finish::finish;
 use crate::rows::new_context::new_context;
@@ -24,11 +25,11 @@ pub(crate) const LIMIT: u64 = 1 << 48;
 /// The machine of one thread. It stands for a history, of which it keeps what the next replies need.
 #[derive(Drop)]
 pub struct Hub {
-    pub(crate) next: u64,
+    pub(crate) counts: Counts,
     pub(crate) passes: u64,
     now: Moment,
-    contexts: Contexts,
-    timers: Timers,
+    pub(crate) contexts: Contexts,
+    pub(crate) timers: Timers,
     bus: Bus,
 }
 
@@ -44,9 +45,9 @@ impl Model for Hub {
 
     ghost coded = { Prim.hlevel (codes, body.the_row.coded) };
 
-    ghost view = { λ a. record { next = a.next; passes = a.passes; now = a.now; contexts = a.contexts; timers = a.timers; bus = a.bus } };
+    ghost view = { λ a. record { counts = a.counts; passes = a.passes; now = a.now; contexts = a.contexts; timers = a.timers; bus = a.bus } };
 
-    ghost invariant = { λ a. IsOfHistory (record { next = a.next; passes = a.passes; now = a.now; contexts = a.contexts; timers = a.timers; bus = a.bus }) × HavePlaces a.contexts a.bus };
+    ghost invariant = { λ a. IsOfHistory (record { counts = a.counts; passes = a.passes; now = a.now; contexts = a.contexts; timers = a.timers; bus = a.bus }) × HavePlaces a.contexts a.bus };
 }
 
 // Makes a plain call, as the entry of this number.
@@ -85,7 +86,7 @@ impl Hub {
         ensures empty { StandsFor result [] }
     {
         Hub {
-            next: 0,
+            counts: Counts::new(),
             passes: 1,
             now: Moment::at(0),
             contexts: Contexts::new(alloc),
@@ -105,20 +106,22 @@ impl Hub {
         ensures call_comes_back { IfErr result (λ unmade. unmade.call ≡ call) }
         ensures takes_no_memory { takes_no_memory call ≡ true → IsOk result }
     {
-        if self.next >= LIMIT {
+        let at = self.counts.entries();
+        if at >= LIMIT {
             return Ok(Reply::Refused(Refusal::Spent));
         }
+        let makes = makes_message(&call);
         let reply = plain_row(
             &mut self.passes,
             &mut self.now,
             &mut self.contexts,
             &mut self.timers,
             &mut self.bus,
-            EntryNo(self.next),
+            EntryNo(at),
             pass,
             call,
         )?;
-        self.next += 1;
+        self.counts.add(has_made(makes, &reply), delivers(&reply));
         Ok(reply)
     }
 
@@ -127,18 +130,19 @@ impl Hub {
     pub fn take(&mut self, pass: PassNo, lane: Lane) -> Reply
         ensures answered_as_the_machine { Meets self.old self.new pass (Call.Take lane) result }
     {
-        if self.next >= LIMIT {
+        let at = self.counts.entries();
+        if at >= LIMIT {
             return Reply::Refused(Refusal::Spent);
         }
         let reply = take(
             &mut self.contexts,
             &self.timers,
             &mut self.bus,
-            EntryNo(self.next),
+            EntryNo(at),
             pass,
             lane,
         );
-        self.next += 1;
+        self.counts.add(false, delivers(&reply));
         reply
     }
 
@@ -146,11 +150,11 @@ impl Hub {
     pub fn finish(&mut self, pass: PassNo, end: End) -> Result<(), Refusal>
         ensures answered_as_the_machine { Meets self.old self.new pass (Call.Finish end) (finished result) }
     {
-        if self.next >= LIMIT {
+        if self.counts.entries() >= LIMIT {
             return Err(Refusal::Spent);
         }
         let ended = finish(&mut self.contexts, pass, end);
-        self.next += 1;
+        self.counts.add(false, false);
         ended
     }
 }

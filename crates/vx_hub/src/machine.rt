@@ -24,15 +24,15 @@ impl Machine for Hub {
     ghost opens = { opens };
 
     fn count(&self) -> u64 {
-        self.next
+        self.counts.entries()
     }
 
     fn new_pass(&mut self, pass: PassNo) -> Result<PassNo, Spent> {
-        if self.next >= LIMIT {
+        if self.counts.entries() >= LIMIT {
             return Err(Spent);
         }
         let number = new_pass(&mut self.passes);
-        self.next += 1;
+        self.counts.add(false, false);
         Ok(number)
     }
 

@@ -1,6 +1,8 @@
-use crate::Hub;
-use vx_call::{Call, End, Lane, Reply, Task, To};
-use vx_data::{Body, ConsumerId, ContextId, EntryNo, MessageId, PassNo, Text};
+use crate::{Hub, Totals};
+use std::alloc::Global;
+use std::test::Fail;
+use vx_call::{Call, End, Lane, Options, Reply, Task, To};
+use vx_data::{Body, ConsumerId, ContextId, EntryNo, Headers, MessageId, PassNo, Text};
 
 const PASS: PassNo = PassNo(0);
 
@@ -41,38 +43,51 @@ fn register() -> Call {
     Call::Register {
         context: CONTEXT,
         address: Text::constant("news"),
+        limit: 1000,
     }
 }
 
-fn request() -> Call {
+// No headers and no codec.
+fn plain(alloc: Global) -> Options {
+    Options {
+        headers: Headers::empty(alloc),
+        codec: None,
+    }
+}
+
+fn request(alloc: Global) -> Call {
     Call::Request {
         context: CONTEXT,
         address: Text::constant("news"),
         body: Body::int(7),
+        options: plain(alloc),
         timeout: 1,
     }
 }
 
-fn reply_request() -> Call {
+fn reply_request(alloc: Global) -> Call {
     Call::ReplyRequest {
         message: MessageId(EntryNo(2)),
         context: CONTEXT,
         body: Body::int(8),
+        options: plain(alloc),
         timeout: 1,
     }
 }
 
-fn send() -> Call {
+fn send(alloc: Global) -> Call {
     Call::Send {
         address: Text::constant("news"),
         body: Body::int(9),
+        options: plain(alloc),
     }
 }
 
-fn publish() -> Call {
+fn publish(alloc: Global) -> Call {
     Call::Publish {
         address: Text::constant("news"),
         body: Body::int(10),
+        options: plain(alloc),
     }
 }
 
@@ -81,13 +96,13 @@ fn each_call_is_answered(rt: HostRuntime) {
     let mut hub = Hub::new(rt.alloc());
     let made = reached(&mut hub, Call::NewContext);
     let registered = reached(&mut hub, register());
-    let asked = reached(&mut hub, request());
+    let asked = reached(&mut hub, request(rt.alloc()));
     let message = taken(&mut hub);
-    let asked_again = reached(&mut hub, reply_request());
+    let asked_again = reached(&mut hub, reply_request(rt.alloc()));
     let finished = hub.finish(PASS, End::Done);
     let ended = taken(&mut hub);
-    let sent = reached(&mut hub, send());
-    let published = reached(&mut hub, publish());
+    let sent = reached(&mut hub, send(rt.alloc()));
+    let published = reached(&mut hub, publish(rt.alloc()));
 
     let consumer = Some(To::Consumer(ConsumerId(EntryNo(1))));
     let request = Some(MessageId(EntryNo(2)));
@@ -96,4 +111,41 @@ fn each_call_is_answered(rt: HostRuntime) {
     assert_eq!(rt; asked_again, Some(To::Asker));
     assert_eq!(rt; finished, Ok(()));
     assert_eq!(rt; [message, ended], [request; 2]);
+}
+
+#[test]
+fn totals_count_what_was_accepted(rt: HostRuntime) -> Result<(), Fail> {
+    let mut hub = Hub::new(rt.alloc());
+    let _ = reached(&mut hub, Call::NewContext);
+    let _ = reached(&mut hub, register());
+    let sent = reached(&mut hub, send(rt.alloc()));
+    let nowhere = Call::Send {
+        address: Text::constant(""),
+        body: Body::int(9),
+        options: plain(rt.alloc()),
+    };
+    let refused = reached(&mut hub, nowhere);
+    let asked = reached(&mut hub, request(rt.alloc()));
+    let message = taken(&mut hub);
+
+    assert_eq!(rt;
+        [sent, asked],
+        [Some(To::Consumer(ConsumerId(EntryNo(1)))); 2]
+    );
+    assert_eq!(rt; refused, None);
+    assert_eq!(rt; message, Some(MessageId(EntryNo(2))));
+    let totals = hub.totals();
+    let counted = Totals {
+        deployments: 0,
+        messages: 2,
+        deliveries: 1,
+        frames: 0,
+    };
+    assert_eq!(rt; totals, counted);
+    let mut line = Vec::new(rt.alloc());
+    line.extend_from_slice(b"> ")?;
+    totals.write(&mut line)?;
+    let written = b"> deployments 0 messages 2 deliveries 1 frames 0\n";
+    assert_eq!(rt; line.as_slice(), written.as_slice());
+    Ok(())
 }

@@ -10,18 +10,18 @@ use Rattle.vx_message.specs.declared.Lane.TheVariants as lanes
 use Rattle.vx_message.specs.declared.Outcome.{Outcome}
 use Rattle.vx_call.specs.declared.reply.Task.TheVariants as tasks
 use Rattle.vx_call.specs.declared.history.Traced.{Traced}
-use Rattle.vx_call.specs.Names.{same_context}
+use Rattle.vx_data.specs.Ids.{same_context}
 use Rattle.vx_call.specs.Given.{asker, context_of}
 use Rattle.vx_call.specs.Items.{Waiting, waiting}
 use Rattle.vx_call.specs.Held.{runs}
 use Rattle.vx_call.specs.Next.{is_on}
 use Rattle.vx_call.specs.Machine.{IsLegal}
-use Rattle.vx_call.proofs.Each.{by_entries}
+use Rattle.vx_call.proofs.Each.{Each-find, by_entries}
+use Rattle.vx_call.proofs.Found.{find_passes}
 use Rattle.vx_call.proofs.Opened.{keeps_asker}
 use Rattle.vx_call.proofs.Owners.{waiting_owned}
 use Rattle.vx_laws.specs.Entries.{TakesAt}
 use Rattle.vx_laws.specs.Outcomes.{HandsOutOnce, HandsToAsker}
-use Rattle.vx_laws.proofs.Splits.{find_passes, Each-find}
 use Rattle.vx_laws.proofs.Handed.{Handed, handed}
 use Rattle.vx_laws.proofs.Gone.{takes_apart}
 

@@ -13,7 +13,7 @@ use Rattle.vx_call.specs.declared.reply.Task.{Task}
 use Rattle.vx_call.specs.declared.reply.Task.TheVariants as tasks
 use Rattle.vx_call.specs.declared.history.Traced.{Traced}
 use Rattle.vx_call.specs.History.{is_accepted, made_by, lasting}
-use Rattle.vx_call.specs.Names.{same_message}
+use Rattle.vx_data.specs.Ids.{same_message}
 use Rattle.vx_call.specs.Given.{given_made, given_kind, given, context_of}
 use Rattle.vx_call.proofs.Lasting.{lasting_more, and_false}
 use Rattle.vx_call.proofs.Each.{by_entries}

@@ -4,6 +4,7 @@ use Rattle.std.specs.Map.{lookup}
 use Rattle.vx_data.specs.declared.ids.ConsumerId.{ConsumerId}
 use Rattle.vx_data.specs.declared.ids.EntryNo.{EntryNo}
 use Rattle.vx_data.specs.declared.ids.MessageId.{MessageId}
+use Rattle.vx_data.specs.Ids.{same_message}
 use Rattle.vx_message.specs.declared.Given.{Given}
 use Rattle.vx_request.specs.declared.requests.OpenRequest.{OpenRequest}
 
@@ -18,9 +19,6 @@ pub record RequestStore : Type 0 where
 pub record GivenStore : Type 0 where
   pub given : List (ℕ × Given)
   pub room : ℕ
-
-abbrev pub same_message : MessageId → MessageId → Bool
-same_message a b = a.0.0 == b.0.0
 
 -- whether this message is the request
 abbrev pub is_request : MessageId → OpenRequest → Bool

@@ -1,7 +1,8 @@
 ghost use Rattle.std.specs.Prelude.{◌≡◌, ◌+◌, ◌<◌, ◌≤◌, if◌then◌else◌, [], None, Some, OnOk};
 ghost use Rattle.std.specs.Option.{option_or};
 ghost use Rattle.vx_data.specs.declared.ids.MessageId.{MessageId};
-ghost use Rattle.vx_request.specs.Stores.{same_message, given_at};
+ghost use Rattle.vx_data.specs.Ids.{same_message};
+ghost use Rattle.vx_request.specs.Stores.{given_at};
 
 use crate::first::keep_first;
 use indexmap::IndexMap;

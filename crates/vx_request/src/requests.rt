@@ -3,7 +3,8 @@ ghost use Rattle.std.specs.Option.{option_map, option_or};
 ghost use Rattle.indexmap.specs.IndexMap.{spare};
 ghost use Rattle.vx_data.specs.declared.ids.MessageId.{MessageId};
 ghost use Rattle.vx_request.specs.declared.requests.OpenRequest.{OpenRequest};
-ghost use Rattle.vx_request.specs.Stores.{same_message, is_request, ended_at, is_lost};
+ghost use Rattle.vx_data.specs.Ids.{same_message};
+ghost use Rattle.vx_request.specs.Stores.{is_request, ended_at, is_lost};
 
 use crate::first::keep_first;
 use crate::given::GivenOut;

@@ -9,9 +9,6 @@ pub record RingAt : Type 0 where
   pub consumers : List ConsumerId
   pub choices : ℕ
 
-abbrev pub same_consumer : ConsumerId → ConsumerId → Bool
-same_consumer a b = a.0.0 == b.0.0
-
 abbrev pub is_empty : List ConsumerId → Bool
 is_empty consumers = length consumers == 0
 

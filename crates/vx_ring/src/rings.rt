@@ -1,7 +1,8 @@
 ghost use Rattle.std.specs.Prelude.{◌≡◌, ◌+◌, ◌-◌, ◌%◌, ◌^◌, ◌&&◌, ℕ, min, not, if◌then◌else◌, List, [], ◌∷◌, ◌++◌, length, filter, slice_get, OnOk, OnErr};
 ghost use Rattle.std.specs.List.{list_any};
 ghost use Rattle.std.specs.Str.{bytes_eq};
-ghost use Rattle.vx_ring.specs.Rings.{is_empty, same_consumer, consumers_at, choices_at};
+ghost use Rattle.vx_data.specs.Ids.{same_consumer};
+ghost use Rattle.vx_ring.specs.Rings.{is_empty, consumers_at, choices_at};
 ghost use Rattle.vx_ring.specs.Entries.{ring_at, consumers_of, choices_of, HaveConsumers};
 
 use crate::ring::Ring;
@@ -58,6 +59,13 @@ impl Rings {
         ensures choices { (a : List ℕ) → choices_at a self.new ≡ (if is_empty (consumers_at a self.new) then 0 else choices_at a self.old) }
     {
         remove(&mut self.map, address, consumer)
+    }
+
+    /// The consumer whose turn it is at an address, or none where it has none. The choice is not counted.
+    pub fn turn(&self, address: &Text) -> Option<ConsumerId>
+        ensures { result ≡ slice_get (consumers_at address.now self.now) (choices_at address.now self.now % length (consumers_at address.now self.now)) }
+    {
+        turn(&self.map, address)
     }
 
     /// The consumer whose turn it is at an address, or none where it has none, and counts the choice. 2^64 - 1 choices
@@ -119,6 +127,13 @@ fn remove(map: &mut IndexMap<Text, Ring>, address: &Text, consumer: ConsumerId) 
         map.swap_remove(address);
     }
     found
+}
+
+// The consumer whose turn it is at an address.
+fn turn(map: &IndexMap<Text, Ring>, address: &Text) -> Option<ConsumerId>
+    ensures { result ≡ slice_get (consumers_of (ring_at address.now map.now.entries)) (choices_of (ring_at address.now map.now.entries) % length (consumers_of (ring_at address.now map.now.entries))) }
+{
+    map.get(address)?.turn()
 }
 
 // The consumer whose turn it is at an address, whose choices are counted.

@@ -2,6 +2,7 @@
 #![tactic(auto)]
 
 mod command;
+mod ending;
 mod fault;
 mod laws;
 mod limit;
@@ -17,6 +18,7 @@ mod reply;
 mod running;
 mod status;
 mod text;
+mod token;
 mod word;
 
 pub use fault::LineWhy;

@@ -1,5 +1,5 @@
 use Rattle.std.proofs.Common.{◌≡◌, [], arith, rules, sym, ◌∙◌, not}
-use Rattle.vx_ring.specs.Rings.{same_consumer}
+use Rattle.vx_data.specs.Ids.{same_consumer}
 use Rattle.vx_ring.proofs.Lookups.{none_left, last_goes}
 use Rattle.vx_ring.proofs.rings.remove.Goals as goal
 

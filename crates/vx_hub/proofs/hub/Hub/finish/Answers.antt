@@ -1,17 +1,25 @@
-use Rattle.std.proofs.Common.{◌+◌, refl, subst, arith}
+use Rattle.std.proofs.Common.{◌≡◌, ◌<◌, ◌^◌, refl, ◌∙◌, subst, arith}
 use Rattle.vx_call.specs.declared.call.Call.TheVariants as calls
+use Rattle.vx_hub.specs.Counts.{with_entry}
 use Rattle.vx_hub.specs.Stores.{HubStore}
 use Rattle.vx_hub.specs.Stands.{Meets, finished}
+use Rattle.vx_hub.proofs.Counting.{finish_counted}
 use Rattle.vx_hub.proofs.Calls.{Rows, keeping_time, leaving_bus, meets, of_history_more}
 use Rattle.vx_hub.proofs.hub.Hub.finish.Goals as goal
 
-abbrev old : goal.After-self-1 → HubStore
-old c = record { next = c.self.inside.next; passes = c.self.inside.passes; now = c.self.inside.now; contexts = c.self.inside.contexts; timers = c.self.inside.timers; bus = c.self.inside.bus }
+abbrev old : goal.After-add → HubStore
+old c = record { counts = c.self.inside.counts; passes = c.self.inside.passes; now = c.self.inside.now; contexts = c.self.inside.contexts; timers = c.self.inside.timers; bus = c.self.inside.bus }
 
-abbrev new : goal.After-self-1 → HubStore
-new c = record { next = c.self.inside.next + 1; passes = c.self.inside.passes; now = c.self.inside.now; contexts = c.finish-ended.new.contexts; timers = c.self.inside.timers; bus = c.self.inside.bus }
+abbrev new : goal.After-add → HubStore
+new c = record { counts = c.add.new.self; passes = c.self.inside.passes; now = c.self.inside.now; contexts = c.finish-ended.new.contexts; timers = c.self.inside.timers; bus = c.self.inside.bus }
 
-row : (c : goal.After-self-1) → Rows (old c) (new c) c.args.pass (calls.Finish c.args.end) (finished c.finish-ended.result)
+more : (c : goal.After-add) → c.add.new.self ≡ with_entry c.self.inside.counts (calls.Finish c.args.end) (finished c.finish-ended.result)
+more c = c.add.ensures ∙ finish_counted c.self.inside.counts c.args.end c.finish-ended.result
+
+small : (c : goal.After-add) → c.self.inside.counts.entries < 2 ^ 48
+small c = rw (← c.entries.ensures) c.if-entries-ge-LIMIT.false
+
+row : (c : goal.After-add) → Rows (old c) (new c) c.args.pass (calls.Finish c.args.end) (finished c.finish-ended.result)
 row c = λ history stands is_next.
     keeping_time c.self.inside.passes c.self.inside.now c.finish-ended.new.contexts c.self.inside.timers c.self.inside.bus history c.args.pass (calls.Finish c.args.end) (finished c.finish-ended.result) refl
     stands.passes stands.now
@@ -20,11 +28,11 @@ row c = λ history stands is_next.
 
 pub invariant_of-self : goal.invariant_of-self
 invariant_of-self c = (
-  of_history_more (old c) (new c) c.args.pass (calls.Finish c.args.end) (finished c.finish-ended.result) refl (row c) c.self.invariant.0,
+  of_history_more (old c) (new c) c.args.pass (calls.Finish c.args.end) (finished c.finish-ended.result) (more c) (row c) c.self.invariant.0,
   record { items = omega (arith, c.self.invariant.1.items, c.finish-ended.ensures.room); tasks = c.self.invariant.1.tasks },
 )
 
 pub returns : goal.returns
 returns c =
     let P : HubStore → Type 0 = λ o. Meets o (new c) c.args.pass (calls.Finish c.args.end) (finished c.finish-ended.result) in
-    record { answered_as_the_machine = subst P c.self.view_is (meets (old c) (new c) c.args.pass (calls.Finish c.args.end) (finished c.finish-ended.result) c.if-self-ge-LIMIT.false refl (row c)) }
+    record { answered_as_the_machine = subst P c.self.view_is (meets (old c) (new c) c.args.pass (calls.Finish c.args.end) (finished c.finish-ended.result) (small c) (more c) (row c)) }

@@ -1,10 +1,10 @@
 use Rattle.std.proofs.Common.{◌+◌, [], ap, sym, ◌∙◌, refl, arith, max}
 use Rattle.std.specs.Prelude.{map, filter, length, find, fold}
-use Rattle.std.specs.List.{count_by, filter_map}
+use Rattle.std.specs.List.{count_by}
 use Rattle.std.specs.Option.{option_map}
 use Rattle.std.specs.Str.{bytes_eq}
 use Rattle.vx_message.specs.declared.Given.{Given}
-use Rattle.vx_call.specs.Names.{same_message}
+use Rattle.vx_data.specs.Ids.{same_message}
 use Rattle.vx_call.specs.Passes.{pass_kind}
 use Rattle.vx_call.specs.Contexts.{context_kind}
 use Rattle.vx_call.specs.Consumers.{consumer_kind, is_at}
@@ -12,39 +12,43 @@ use Rattle.vx_call.specs.Choices.{choice_kind}
 use Rattle.vx_call.specs.Given.{given_kind}
 use Rattle.vx_call.specs.Requests.{open_kind, moment_kind, by_due}
 use Rattle.vx_call.specs.Settled.{Settled, settled_kind}
-use Rattle.vx_call.specs.Items.{item_kind}
+use Rattle.vx_call.specs.Codecs.{codec_kind}
+use Rattle.vx_call.specs.Rules.{rule_kind}
+use Rattle.vx_call.specs.Items.{item_kind, task_kind}
 use Rattle.vx_call.specs.Held.{held_kind}
 use Rattle.vx_call.specs.Rows.{ids_of}
 use Rattle.vx_call.proofs.Lasting.{lasting_none}
 use Rattle.vx_call.proofs.Legal.{legal_none}
 use Rattle.vx_context.specs.Stores.{ContextStore, item_of}
-use Rattle.vx_core_bus.specs.Stores.{task_of, row_of, timer_of}
+use Rattle.vx_core_bus.specs.Stores.{handler_of, row_of, timer_of}
 use Rattle.vx_hub.specs.Stores.{HubStore}
 use Rattle.vx_hub.specs.Stands.{HubStands}
 use Rattle.vx_hub.proofs.hub.Hub.new.Goals as goal
 
 -- a hub with empty stores is that of the empty history
-empty : (c : goal.After-new-3) → (let hub : HubStore = record { next = 0; passes = 1; now = c.at.result; contexts = c.new.result; timers = c.new-2.result; bus = c.new-3.result } in HubStands hub [])
+empty : (c : goal.After-new-4) → (let hub : HubStore = record { counts = c.new.result; passes = 1; now = c.at.result; contexts = c.new-2.result; timers = c.new-3.result; bus = c.new-4.result } in HubStands hub [])
 empty c = record {
-  next = refl;
+  counts = c.new.ensures;
   parts = record {
     passes = ap (λ ps. length ps + 1) (sym (lasting_none pass_kind));
     now = c.at.ensures ∙ ap (fold max 0) (sym (lasting_none moment_kind));
     stores = record {
       contexts = record {
-        made = ap (λ (s : ContextStore). s.made) c.new.ensures ∙ sym (lasting_none context_kind);
-        held = ap (λ (s : ContextStore). s.held) c.new.ensures ∙ sym (lasting_none held_kind);
-        waiting = ap (λ (s : ContextStore). s.waiting) c.new.ensures ∙ ap (map item_of) (sym (lasting_none item_kind));
+        made = ap (λ (s : ContextStore). s.made) c.new-2.ensures ∙ sym (lasting_none context_kind);
+        held = ap (λ (s : ContextStore). s.held) c.new-2.ensures ∙ sym (lasting_none held_kind);
+        waiting = ap (λ (s : ContextStore). s.waiting) c.new-2.ensures ∙ ap (map item_of) (sym (lasting_none item_kind));
       };
-      timers = c.new-2.ensures ∙ ap (λ rs. map timer_of (by_due rs)) (sym (lasting_none open_kind));
+      timers = c.new-3.ensures ∙ ap (λ rs. map timer_of (by_due rs)) (sym (lasting_none open_kind));
       bus = record {
-        consumers = c.new-3.ensures.consumers ∙ sym (lasting_none consumer_kind);
-        rings = λ a. c.new-3.ensures.in_turn a ∙ ap (λ cs. ids_of (filter (is_at a) cs)) (sym (lasting_none consumer_kind));
-        choices = λ a. c.new-3.ensures.choices a ∙ ap (count_by (bytes_eq a)) (sym (lasting_none choice_kind));
-        tasks = c.new-3.ensures.tasks ∙ ap (filter_map task_of) (sym (lasting_none item_kind));
-        opened = c.new-3.ensures.requests ∙ ap (map row_of) (sym (lasting_none open_kind));
-        ended = λ id. c.new-3.ensures.ended id ∙ ap (λ ss. option_map (λ (s : Settled). s.at) (find (λ (s : Settled). same_message id s.request) ss)) (sym (lasting_none settled_kind));
-        given = λ id. c.new-3.ensures.given id ∙ ap (λ gs. find (λ (g : Given). same_message id g.id) gs) (sym (lasting_none given_kind));
+        consumers = c.new-4.ensures.consumers ∙ ap (map (handler_of [])) (sym (lasting_none consumer_kind));
+        rings = λ a. c.new-4.ensures.in_turn a ∙ ap (λ cs. ids_of (filter (is_at a) cs)) (sym (lasting_none consumer_kind));
+        choices = λ a. c.new-4.ensures.choices a ∙ ap (count_by (bytes_eq a)) (sym (lasting_none choice_kind));
+        tasks = c.new-4.ensures.tasks ∙ sym (lasting_none task_kind);
+        opened = c.new-4.ensures.requests ∙ ap (map row_of) (sym (lasting_none open_kind));
+        ended = λ id. c.new-4.ensures.ended id ∙ ap (λ ss. option_map (λ (s : Settled). s.at) (find (λ (s : Settled). same_message id s.request) ss)) (sym (lasting_none settled_kind));
+        given = λ id. c.new-4.ensures.given id ∙ ap (λ gs. find (λ (g : Given). same_message id g.id) gs) (sym (lasting_none given_kind));
+        codecs = c.new-4.ensures.codecs ∙ sym (lasting_none codec_kind);
+        rules = c.new-4.ensures.rules ∙ sym (lasting_none rule_kind);
       };
     };
   };
@@ -54,8 +58,8 @@ pub invariant_of-result : goal.invariant_of-result
 invariant_of-result c = (
   ∣ ([], empty c) ∣₁,
   record {
-    items = rw c.new-3.ensures.requests (omega arith);
-    tasks = rw c.new-3.ensures.requests (omega arith);
+    items = rw (c.new-4.ensures.requests, c.new-4.ensures.consumers) (omega arith);
+    tasks = rw c.new-4.ensures.requests (omega arith);
   },
 )
 

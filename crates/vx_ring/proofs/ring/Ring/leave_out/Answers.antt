@@ -1,6 +1,6 @@
 use Rattle.std.proofs.Common.{rules, tests, not}
 use Rattle.std.proofs.lemmas.Fn.{filter_same}
-use Rattle.vx_ring.specs.Rings.{same_consumer}
+use Rattle.vx_data.specs.Ids.{same_consumer}
 use Rattle.vx_ring.proofs.ring.Ring.leave_out.Goals as goal
 
 pub returns-clause-left : goal.returns-clause-left

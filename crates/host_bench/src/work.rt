@@ -1,0 +1,170 @@
+//! What is measured: a message is sent to a consumer and taken, and its task ends. These are three calls.
+ghost use Rattle.std.specs.Prelude.{◌≡◌, true};
+ghost use Rattle.vx_call.specs.Plain.{is_plain};
+ghost use Rattle.vx_turn.specs.Passes.{place, place_of};
+
+use std::alloc::Global;
+use std::sync::Wait;
+use std::thread::{Threads, join};
+use vx_call::{Call, End, Lane, Options, Reply, To, Unmade};
+use vx_data::{Body, ContextId, Headers, PassNo, Text};
+use vx_host::{Host, Pass};
+use vx_hub::Hub;
+
+/// How many messages a thread sends.
+pub const MESSAGES: u64 = 100_000;
+
+/// The pass that calls a hub alone.
+const PASS: PassNo = PassNo(0);
+
+fn register(context: ContextId, address: &'static str) -> Call
+    ensures { is_plain result ≡ true }
+{
+    Call::Register {
+        context,
+        address: Text::constant(address),
+        limit: 1000,
+    }
+}
+
+fn send(alloc: Global, address: &'static str) -> Call
+    ensures { is_plain result ≡ true }
+{
+    Call::Send {
+        address: Text::constant(address),
+        body: Body::int(7),
+        options: Options {
+            headers: Headers::empty(alloc),
+            codec: None,
+        },
+    }
+}
+
+/// The context in a reply, or none.
+fn context_in(answer: &Result<Reply, Unmade>) -> Option<ContextId> {
+    match answer {
+        Ok(Reply::Context(context)) => Some(*context),
+        _ => None,
+    }
+}
+
+/// Whether a message was sent to a consumer.
+fn is_sent(answer: &Result<Reply, Unmade>) -> bool {
+    matches!(answer, Ok(Reply::Sent(To::Consumer(_))))
+}
+
+fn is_task(reply: &Reply) -> bool {
+    matches!(reply, Reply::Task(_))
+}
+
+/// The lane of a context of the hub's, with a consumer at an address.
+fn hub_lane(hub: &mut Hub, address: &'static str) -> Option<Lane> {
+    let context = context_in(&hub.step(PASS, Call::NewContext))?;
+    let _ = hub.step(PASS, register(context, address));
+    Some(Lane::Own(context))
+}
+
+fn hub_exchange(alloc: Global, hub: &mut Hub, lane: Lane, address: &'static str) -> bool {
+    let sent = is_sent(&hub.step(PASS, send(alloc, address)));
+    let taken = is_task(&hub.take(PASS, lane));
+    let finished = hub.finish(PASS, End::Done).is_ok();
+    sent && taken && finished
+}
+
+/// Sends messages through a hub, one after another: whether all calls were accepted.
+pub fn hub_exchange_many(alloc: Global, hub: &mut Hub, address: &'static str, count: u64) -> bool {
+    let Some(lane) = hub_lane(hub, address) else {
+        return false;
+    };
+    let mut accepted = true;
+    for _ in 0..count {
+        accepted &= hub_exchange(alloc, hub, lane, address);
+    }
+    accepted
+}
+
+/// The lane of a context of the pass, with a consumer at an address.
+fn lane<R: Wait>(rt: &R, host: &Host, pass: Pass, address: &'static str) -> (Pass, Option<Lane>)
+    requires { place_of pass ≡ place host.now.shared }
+    ensures { place_of result.0 ≡ place_of pass }
+{
+    let made = host.apply(rt, pass, Call::NewContext);
+    match context_in(&made.result) {
+        Some(context) => {
+            let registered = host.apply(rt, made.pass, register(context, address));
+            (registered.pass, Some(Lane::Own(context)))
+        }
+        None => (made.pass, None),
+    }
+}
+
+fn exchange<R: Wait + AllocGlobal>(
+    rt: &R,
+    host: &Host,
+    pass: Pass,
+    lane: Lane,
+    address: &'static str,
+) -> (Pass, bool)
+    requires { place_of pass ≡ place host.now.shared }
+    ensures { place_of result.0 ≡ place_of pass }
+{
+    let sent = host.apply(rt, pass, send(rt.alloc(), address));
+    let is_sent = is_sent(&sent.result);
+    let (pass, taken) = host.take(rt, sent.pass, lane);
+    let is_taken = is_task(&taken);
+    let (pass, finished) = host.finish(rt, pass, End::Done);
+    (pass, is_sent && is_taken && finished.is_ok())
+}
+
+/// Sends messages through a host, one after another: whether all calls were accepted.
+pub fn exchange_many<R: Wait + AllocGlobal>(
+    rt: &R,
+    host: &Host,
+    pass: Pass,
+    address: &'static str,
+    count: u64,
+) -> bool
+    requires { place_of pass ≡ place host.now.shared }
+{
+    let (pass, lane) = lane(rt, host, pass, address);
+    match lane {
+        Some(lane) => exchange_each(rt, host, pass, lane, address, count),
+        None => false,
+    }
+}
+
+fn exchange_each<R: Wait + AllocGlobal>(
+    rt: &R,
+    host: &Host,
+    mut pass: Pass,
+    lane: Lane,
+    address: &'static str,
+    count: u64,
+) -> bool
+    requires { place_of pass ≡ place host.now.shared }
+{
+    let mut accepted = true;
+    for _ in 0..count {
+        let (after, made) = exchange(rt, host, pass, lane, address);
+        pass = after;
+        accepted &= made;
+    }
+    accepted
+}
+
+/// Two passes do so against each other, each on a thread.
+pub fn both<R: Threads + Wait + Sync + AllocGlobal>(rt: &R, host: &Host, one: Pass, two: Pass) -> bool
+    requires one { place_of one ≡ place host.now.shared }
+    requires two { place_of two ≡ place host.now.shared }
+{
+    let (one, two) = join(
+        rt,
+        || -> bool
+            requires { place_of one ≡ place host.now.shared }
+        { exchange_many(rt, host, one, "one", MESSAGES) },
+        || -> bool
+            requires { place_of two ≡ place host.now.shared }
+        { exchange_many(rt, host, two, "two", MESSAGES) },
+    );
+    one && two
+}
