@@ -3,11 +3,10 @@ ghost use Rattle.std.specs.Prelude.{◌≡◌, true};
 ghost use Rattle.vx_call.specs.Plain.{is_plain};
 ghost use Rattle.vx_turn.specs.Passes.{place, place_of};
 
-use std::alloc::Global;
 use std::sync::Wait;
 use std::thread::{Threads, join};
-use vx_call::{Call, End, Lane, Options, Reply, To, Unmade};
-use vx_data::{Body, ContextId, Headers, PassNo, Text};
+use vx_call::{Call, End, Lane, Reply, To, Unmade};
+use vx_data::{Body, ContextId, PassNo, Text};
 use vx_host::{Host, Pass};
 use vx_hub::Hub;
 
@@ -23,20 +22,15 @@ fn register(context: ContextId, address: &'static str) -> Call
     Call::Register {
         context,
         address: Text::constant(address),
-        limit: 1000,
     }
 }
 
-fn send(alloc: Global, address: &'static str) -> Call
+fn send(address: &'static str) -> Call
     ensures { is_plain result ≡ true }
 {
     Call::Send {
         address: Text::constant(address),
         body: Body::int(7),
-        options: Options {
-            headers: Headers::empty(alloc),
-            codec: None,
-        },
     }
 }
 
@@ -64,21 +58,21 @@ fn hub_lane(hub: &mut Hub, address: &'static str) -> Option<Lane> {
     Some(Lane::Own(context))
 }
 
-fn hub_exchange(alloc: Global, hub: &mut Hub, lane: Lane, address: &'static str) -> bool {
-    let sent = is_sent(&hub.step(PASS, send(alloc, address)));
+fn hub_exchange(hub: &mut Hub, lane: Lane, address: &'static str) -> bool {
+    let sent = is_sent(&hub.step(PASS, send(address)));
     let taken = is_task(&hub.take(PASS, lane));
     let finished = hub.finish(PASS, End::Done).is_ok();
     sent && taken && finished
 }
 
 /// Sends messages through a hub, one after another: whether all calls were accepted.
-pub fn hub_exchange_many(alloc: Global, hub: &mut Hub, address: &'static str, count: u64) -> bool {
+pub fn hub_exchange_many(hub: &mut Hub, address: &'static str, count: u64) -> bool {
     let Some(lane) = hub_lane(hub, address) else {
         return false;
     };
     let mut accepted = true;
     for _ in 0..count {
-        accepted &= hub_exchange(alloc, hub, lane, address);
+        accepted &= hub_exchange(hub, lane, address);
     }
     accepted
 }
@@ -98,7 +92,7 @@ fn lane<R: Wait>(rt: &R, host: &Host, pass: Pass, address: &'static str) -> (Pas
     }
 }
 
-fn exchange<R: Wait + AllocGlobal>(
+fn exchange<R: Wait>(
     rt: &R,
     host: &Host,
     pass: Pass,
@@ -108,7 +102,7 @@ fn exchange<R: Wait + AllocGlobal>(
     requires { place_of pass ≡ place host.now.shared }
     ensures { place_of result.0 ≡ place_of pass }
 {
-    let sent = host.apply(rt, pass, send(rt.alloc(), address));
+    let sent = host.apply(rt, pass, send(address));
     let is_sent = is_sent(&sent.result);
     let (pass, taken) = host.take(rt, sent.pass, lane);
     let is_taken = is_task(&taken);
@@ -117,7 +111,7 @@ fn exchange<R: Wait + AllocGlobal>(
 }
 
 /// Sends messages through a host, one after another: whether all calls were accepted.
-pub fn exchange_many<R: Wait + AllocGlobal>(
+pub fn exchange_many<R: Wait>(
     rt: &R,
     host: &Host,
     pass: Pass,
@@ -133,7 +127,7 @@ pub fn exchange_many<R: Wait + AllocGlobal>(
     }
 }
 
-fn exchange_each<R: Wait + AllocGlobal>(
+fn exchange_each<R: Wait>(
     rt: &R,
     host: &Host,
     mut pass: Pass,
@@ -153,7 +147,7 @@ fn exchange_each<R: Wait + AllocGlobal>(
 }
 
 /// Two passes do so against each other, each on a thread.
-pub fn both<R: Threads + Wait + Sync + AllocGlobal>(rt: &R, host: &Host, one: Pass, two: Pass) -> bool
+pub fn both<R: Threads + Wait + Sync>(rt: &R, host: &Host, one: Pass, two: Pass) -> bool
     requires one { place_of one ≡ place host.now.shared }
     requires two { place_of two ≡ place host.now.shared }
 {

@@ -24,10 +24,9 @@ use Rattle.vx_call.specs.Rows.{ids_of}
 use Rattle.vx_call.proofs.Lasting.{lasting-append}
 use Rattle.vx_call.proofs.Each.{Each, weaken}
 use Rattle.vx_call.proofs.Apart.{Apart}
-use Rattle.vx_call.proofs.Filters.{filter_swap}
-use Rattle.vx_call.proofs.Consumers.{same_by_name, consumers_apart}
+use Rattle.vx_call.proofs.Waiting.{same_by_name, consumers_apart}
 use Rattle.vx_core_bus.proofs.LiveChoices.{no_choices}
-use Rattle.vx_core_bus.proofs.Selections.{every, filter_mapped, filter_without, count_kept}
+use Rattle.vx_core_bus.proofs.Selections.{every, filter_mapped, filter_swap, filter_without, count_kept}
 
 -- the history once a consumer has ended
 abbrev pub unregistered : List Traced → PassNo → ConsumerId → List Traced

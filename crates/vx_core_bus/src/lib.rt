@@ -3,8 +3,6 @@
 
 mod bus;
 mod dispatch;
-mod flows;
-mod interceptors;
 mod refusals;
 mod rows;
 mod timing;

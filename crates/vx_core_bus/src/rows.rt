@@ -1,9 +1,6 @@
-//! What each call does where the history is not spent.
+//! What each call does where the history is not spent: a file a call.
 
-pub mod deliver;
 pub mod fail;
-pub mod flow;
-pub mod interceptors;
 pub mod outcomes;
 pub mod publish;
 pub mod register;

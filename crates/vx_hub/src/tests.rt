@@ -1,8 +1,7 @@
 use crate::{Hub, Totals};
-use std::alloc::Global;
 use std::test::Fail;
-use vx_call::{Call, End, Lane, Options, Reply, Task, To};
-use vx_data::{Body, ConsumerId, ContextId, EntryNo, Headers, MessageId, PassNo, Text};
+use vx_call::{Call, End, Lane, Reply, Task, To};
+use vx_data::{Body, ConsumerId, ContextId, EntryNo, MessageId, PassNo, Text};
 
 const PASS: PassNo = PassNo(0);
 
@@ -43,51 +42,38 @@ fn register() -> Call {
     Call::Register {
         context: CONTEXT,
         address: Text::constant("news"),
-        limit: 1000,
     }
 }
 
-// No headers and no codec.
-fn plain(alloc: Global) -> Options {
-    Options {
-        headers: Headers::empty(alloc),
-        codec: None,
-    }
-}
-
-fn request(alloc: Global) -> Call {
+fn request() -> Call {
     Call::Request {
         context: CONTEXT,
         address: Text::constant("news"),
         body: Body::int(7),
-        options: plain(alloc),
         timeout: 1,
     }
 }
 
-fn reply_request(alloc: Global) -> Call {
+fn reply_request() -> Call {
     Call::ReplyRequest {
         message: MessageId(EntryNo(2)),
         context: CONTEXT,
         body: Body::int(8),
-        options: plain(alloc),
         timeout: 1,
     }
 }
 
-fn send(alloc: Global) -> Call {
+fn send() -> Call {
     Call::Send {
         address: Text::constant("news"),
         body: Body::int(9),
-        options: plain(alloc),
     }
 }
 
-fn publish(alloc: Global) -> Call {
+fn publish() -> Call {
     Call::Publish {
         address: Text::constant("news"),
         body: Body::int(10),
-        options: plain(alloc),
     }
 }
 
@@ -96,13 +82,13 @@ fn each_call_is_answered(rt: HostRuntime) {
     let mut hub = Hub::new(rt.alloc());
     let made = reached(&mut hub, Call::NewContext);
     let registered = reached(&mut hub, register());
-    let asked = reached(&mut hub, request(rt.alloc()));
+    let asked = reached(&mut hub, request());
     let message = taken(&mut hub);
-    let asked_again = reached(&mut hub, reply_request(rt.alloc()));
+    let asked_again = reached(&mut hub, reply_request());
     let finished = hub.finish(PASS, End::Done);
     let ended = taken(&mut hub);
-    let sent = reached(&mut hub, send(rt.alloc()));
-    let published = reached(&mut hub, publish(rt.alloc()));
+    let sent = reached(&mut hub, send());
+    let published = reached(&mut hub, publish());
 
     let consumer = Some(To::Consumer(ConsumerId(EntryNo(1))));
     let request = Some(MessageId(EntryNo(2)));
@@ -118,14 +104,13 @@ fn totals_count_what_was_accepted(rt: HostRuntime) -> Result<(), Fail> {
     let mut hub = Hub::new(rt.alloc());
     let _ = reached(&mut hub, Call::NewContext);
     let _ = reached(&mut hub, register());
-    let sent = reached(&mut hub, send(rt.alloc()));
+    let sent = reached(&mut hub, send());
     let nowhere = Call::Send {
         address: Text::constant(""),
         body: Body::int(9),
-        options: plain(rt.alloc()),
     };
     let refused = reached(&mut hub, nowhere);
-    let asked = reached(&mut hub, request(rt.alloc()));
+    let asked = reached(&mut hub, request());
     let message = taken(&mut hub);
 
     assert_eq!(rt;

@@ -2,7 +2,6 @@
 #![tactic(auto)]
 
 mod command;
-mod ending;
 mod fault;
 mod laws;
 mod limit;
@@ -18,7 +17,6 @@ mod reply;
 mod running;
 mod status;
 mod text;
-mod token;
 mod word;
 
 pub use fault::LineWhy;

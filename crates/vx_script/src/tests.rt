@@ -33,7 +33,7 @@ fn bad(line: u64, why: LineWhy) -> Status {
 }
 
 /// Scripts whose lines are all good, with the lines that they write. A `/` stands for a newline.
-static GOOD: [(&str, &str); 38] = [
+static GOOD: [(&str, &str); 24] = [
     ("", ""),
     ("finish", "refused 5 not holding/"),
     ("send news 1/", "sent 0 to none/"),
@@ -121,77 +121,10 @@ static GOOD: [(&str, &str); 38] = [
         "context/register 0 a/advance 4611686018427387904/request 0 a 1/advance 18446744073709551615",
         "context 0/consumer 1/fired 0/asked 3 to 1/fired 0/",
     ),
-    (
-        "context/register +limit:2 0 a/pause 1/send a 1/send a 2/send a 3/fetch 1 1/take own 0/finish/take own 0/\
-         resume 1/take own 0",
-        "context 0/consumer 1/ok/sent 3 to 1/sent 4 to 1/sent 5 lost 1/ok/deliver 1 3 1/ok/idle/ok/deliver 1 4 2/",
-    ),
-    (
-        "context/register 0 a/send a 1/pause 1/send a 2/fetch 1 1/take own 0/finish/take own 0",
-        "context 0/consumer 1/sent 2 to 1/ok/sent 4 to 1/ok/deliver 1 2 1/ok/idle/",
-    ),
-    (
-        "context/register 0 a/codec w wrap k/rule out at:a add:h=v/send +codec:w a 1/take own 0/finish/rule in any stop/\
-         send a 2/codec w copy",
-        "context 0/consumer 1/codec 2/rule 3/sent 4 to 1/deliver 1 4 +\"h\"=\"v\" {\"k\":1}/ok/rule 7/\
-         sent 8 stopped/refused 20 codec taken 2/",
-    ),
-    (
-        "context/register +limit:1 0 a/pause 1/send a 1/request 0 a 2/take own 0",
-        "context 0/consumer 1/ok/sent 3 to 1/asked 4 lost 1/outcome 4 no_handlers -1/",
-    ),
-    (
-        "context/rule out any stop/request 0 a 1/take own 0",
-        "context 0/rule 1/asked 2 stopped/outcome 2 no_handlers -1/",
-    ),
-    (
-        "context/register +limit:0 0 a/register +limit:100001 0 a/register +limit:100000 0 a/fetch 3 0/fetch 9 1/pause 9/\
-         resume 9",
-        "context 0/refused 16 bad count/refused 16 bad count/consumer 3/refused 16 bad count/refused 3 no consumer/\
-         refused 3 no consumer/refused 3 no consumer/",
-    ),
-    (
-        "context/register 0 a/codec k keep a c/codec d drop a c/codec c copy/send +codec:k a {\"b\":1,\"a\":2}/\
-         send +codec:d a {\"b\":1,\"a\":2}/send +codec:c a [ 1 ,true ]/take own 0/finish/take own 0/finish/take own 0",
-        "context 0/consumer 1/codec 2/codec 3/codec 4/sent 5 to 1/sent 6 to 1/sent 7 to 1/deliver 1 5 {\"a\":2}/ok/\
-         deliver 1 6 {\"b\":1}/ok/deliver 1 7 [1,true]/",
-    ),
-    (
-        "uncodec w/codec w keep/uncodec w/send +codec:w a 1/unrule 9/rule in has:h add:=/unrule 5/unrule 5",
-        "refused 19 no codec/codec 1/ok/refused 19 no codec/refused 21 no rule/rule 5/ok/refused 21 no rule/",
-    ),
-    (
-        "context/register 0 a/rule in has:a add:c=d=e/send +h:a= +h:=b a null/send +h:b:c=\" a -5/take own 0/finish/\
-         take own 0",
-        "context 0/consumer 1/rule 2/sent 3 to 1/sent 4 to 1/deliver 1 3 +\"a\"=\"\" +\"\"=\"b\" +\"c\"=\"d=e\" null/ok/\
-         deliver 1 4 +\"b:c\"=\"\\\"\" -5/",
-    ),
-    (
-        "context/register 0 a/request +timeout:5 +h:a=1 0 a {\"x\":[\"\\u00e9\"]}/take own 0/reply +h:b=2 +h:b=3 2 \"y\"/\
-         finish/take own 0",
-        "context 0/consumer 1/asked 2 to 1/request 1 2 +\"a\"=\"1\" {\"x\":[\"é\"]}/ok/ok/\
-         outcome 2 ok +\"b\"=\"2\" +\"b\"=\"3\" \"y\"/",
-    ),
-    (
-        "context/register 0 a/request 0 a 1/take own 0/ask +h:q=r +timeout:9 2 0 [[]]/finish/take own 0",
-        "context 0/consumer 1/asked 2 to 1/request 1 2 1/asked 4 to asker/ok/outcome 2 again 4 +\"q\"=\"r\" [[]]/",
-    ),
-    (
-        "register 0 +limit:1/register 0 +a/register 0 é/send é\t\"\u{7f} 1/uncodec +codec:w",
-        "refused 1 no context/refused 1 no context/refused 1 no context/sent 3 to none/refused 19 no codec/",
-    ),
-    (
-        "publish +codec: a 1/publish +h:a=b a 1/reply +codec:c +h:a=b 0 1/fail 1 1 \"é\\",
-        "refused 19 no codec/published 1 to none/refused 11 no message/refused 11 no message/",
-    ),
-    (
-        "send a  \"x\\n\" /send a 9223372036854775807/send a\u{20}\t\t1\t/send a -9223372036854775808",
-        "sent 0 to none/sent 1 to none/sent 2 to none/sent 3 to none/",
-    ),
 ];
 
 /// Bad scripts, with the first line in no form, and why. A `/` stands for a newline.
-static BAD: [(&str, u64, LineWhy); 90] = [
+static BAD: [(&str, u64, LineWhy); 60] = [
     ("context/foo", 2, LineWhy::Word),
     ("context/pass 1", 2, LineWhy::Form),
     ("context\r//# fine/context 1/foo", 4, LineWhy::Form),
@@ -212,48 +145,21 @@ static BAD: [(&str, u64, LineWhy); 90] = [
     ("@0 @0 pass", 1, LineWhy::Word),
     ("@0 loops", 1, LineWhy::Unbuilt),
     ("close 1", 1, LineWhy::Unbuilt),
-    ("register +x +limit:", 1, LineWhy::Form),
+    ("register +limit:1 0 a", 1, LineWhy::Unbuilt),
+    ("register +x +limit:", 1, LineWhy::Unbuilt),
     ("register +limit 0 a", 1, LineWhy::Form),
-    ("register +limit:x 0 a", 1, LineWhy::Form),
-    ("register +limit:4294967296 0 a", 1, LineWhy::Form),
-    ("register +limit:1 +limit:1 0 a", 1, LineWhy::Form),
+    ("register 0 +limit:1", 1, LineWhy::Form),
     ("register +timeout:1 0 a", 1, LineWhy::Form),
-    ("send +h a 1", 1, LineWhy::Form),
-    ("send +h:a:b a 1", 1, LineWhy::Form),
-    ("send +x a 1", 1, LineWhy::Form),
-    ("send +timeout:1 a 1", 1, LineWhy::Form),
-    ("send +h:a=b +a 1", 1, LineWhy::Form),
-    ("send +codec:c +h:a=b +codec:c a 1", 1, LineWhy::Form),
+    ("send +h:a:b a 1", 1, LineWhy::Unbuilt),
+    ("publish +codec:1 a 1", 1, LineWhy::Unbuilt),
     ("request +timeout:1 +once 0 a 1", 1, LineWhy::Unbuilt),
     ("request +once:1 0 a 1", 1, LineWhy::Form),
     ("request +timeout:1 +timeout:1 0 a 1", 1, LineWhy::Form),
     ("request +timeout: 0 a 1", 1, LineWhy::Form),
     ("request +timeout:x 0 a 1", 1, LineWhy::Form),
     ("reply +once 0 1", 1, LineWhy::Form),
-    ("reply +timeout:1 0 1", 1, LineWhy::Form),
-    ("ask +h: 0 0 1", 1, LineWhy::Form),
-    ("fail +h:a=b 0 1", 1, LineWhy::Form),
-    ("pause", 1, LineWhy::Form),
-    ("pause 1 1", 1, LineWhy::Form),
-    ("resume x", 1, LineWhy::Form),
-    ("fetch 1", 1, LineWhy::Form),
-    ("fetch 1 4294967296", 1, LineWhy::Form),
-    ("fetch 1 -1", 1, LineWhy::Form),
-    ("codec c", 1, LineWhy::Form),
-    ("codec c keeps a", 1, LineWhy::Form),
-    ("codec c copy a", 1, LineWhy::Form),
-    ("codec c wrap", 1, LineWhy::Form),
-    ("codec c wrap a b", 1, LineWhy::Form),
-    ("uncodec", 1, LineWhy::Form),
-    ("uncodec a b", 1, LineWhy::Form),
-    ("rule up any stop", 1, LineWhy::Form),
-    ("rule in all stop", 1, LineWhy::Form),
-    ("rule in any: stop", 1, LineWhy::Form),
-    ("rule in at stop", 1, LineWhy::Form),
-    ("rule out at:a go", 1, LineWhy::Form),
-    ("rule out has:a add:b", 1, LineWhy::Form),
-    ("rule in any stop 1", 1, LineWhy::Form),
-    ("unrule +1", 1, LineWhy::Form),
+    ("ask +h: 0 0 1", 1, LineWhy::Unbuilt),
+    ("fail +h:a:b 0 1", 1, LineWhy::Form),
     ("take loop 1", 1, LineWhy::Unbuilt),
     ("take pool", 1, LineWhy::Unbuilt),
     ("take own", 1, LineWhy::Form),
@@ -266,22 +172,19 @@ static BAD: [(&str, u64, LineWhy); 90] = [
     ("register 0.4294967296 a", 1, LineWhy::Form),
     ("register 0. a", 1, LineWhy::Form),
     ("register 0.0.0 a", 1, LineWhy::Form),
+    ("register 0 +a", 1, LineWhy::Form),
     ("register 0", 1, LineWhy::Form),
     ("register -0 a", 1, LineWhy::Form),
     ("send a", 1, LineWhy::Form),
     ("send a 01", 1, LineWhy::Form),
-    ("send a -0", 1, LineWhy::Form),
-    ("send a 1.5", 1, LineWhy::Form),
-    ("send a 9223372036854775808", 1, LineWhy::Form),
-    ("send a nul", 1, LineWhy::Form),
-    ("send a [1", 1, LineWhy::Form),
-    ("send a {1:2}", 1, LineWhy::Form),
+    ("send a -1", 1, LineWhy::Form),
+    ("send a 1234567890123456789", 1, LineWhy::Form),
     ("send a \"x", 1, LineWhy::Form),
     ("send a \"x\"y", 1, LineWhy::Form),
-    ("send a \"x\u{1}\"", 1, LineWhy::Form),
-    ("send a\t1", 1, LineWhy::Form),
+    ("send a \"x\\n\"", 1, LineWhy::Form),
     ("fail 1 2147483648 x", 1, LineWhy::Form),
     ("fail 1 -2147483649 x", 1, LineWhy::Form),
+    ("fail 1 1 \"x\"", 1, LineWhy::Form),
 ];
 
 /// The lines with a newline for each `/`.
@@ -323,13 +226,13 @@ fn bad_lines(rt: HostRuntime) -> Result<(), Fail> {
     Ok(())
 }
 
-/// A script that registers at an address of so many bytes.
+/// A line that registers at an address of so many bytes.
 fn long_address(alloc: Global, count: usize) -> Result<Vec<u8>, AllocError> {
-    let mut input = b"context\nregister 0 ".to_vec(alloc)?;
+    let mut line = b"register 0 ".to_vec(alloc)?;
     for _ in 0..count {
-        input.push(b'a')?;
+        line.push(b'a')?;
     }
-    Ok(input)
+    Ok(line)
 }
 
 #[test]
@@ -341,64 +244,10 @@ fn addresses_have_1024_bytes_at_most(rt: HostRuntime) -> Result<(), Fail> {
         alloc,
         &longest,
         Status::Done,
-        b"context 0\nconsumer 1\n",
+        b"refused 1 no context\n",
     )?;
     let longer = long_address(alloc, 1025)?;
-    plays(
-        &rt,
-        alloc,
-        &longer,
-        Status::Done,
-        b"context 0\nrefused 9 bad address\n",
-    )
-}
-
-/// A line that sends so many arrays, one in another.
-fn deep_body(alloc: Global, depth: usize) -> Result<Vec<u8>, AllocError> {
-    let mut line = b"send a ".to_vec(alloc)?;
-    for _ in 0..depth {
-        line.push(b'[')?;
-    }
-    for _ in 0..depth {
-        line.push(b']')?;
-    }
-    Ok(line)
-}
-
-#[test]
-fn bodies_are_100_deep_at_most(rt: HostRuntime) -> Result<(), Fail> {
-    let alloc = rt.alloc();
-    let deepest = deep_body(alloc, 100)?;
-    plays(&rt, alloc, &deepest, Status::Done, b"sent 0 to none\n")?;
-    let deeper = deep_body(alloc, 101)?;
-    plays(&rt, alloc, &deeper, bad(1, LineWhy::Form), b"")
-}
-
-/// A line that sends so many headers.
-fn many_headers(alloc: Global, count: usize) -> Result<Vec<u8>, AllocError> {
-    let mut line = b"send".to_vec(alloc)?;
-    for _ in 0..count {
-        line.extend_from_slice(b" +h:a=b")?;
-    }
-    line.extend_from_slice(b" a 1")?;
-    Ok(line)
-}
-
-#[test]
-fn lines_have_1152_headers_at_most(rt: HostRuntime) -> Result<(), Fail> {
-    let alloc = rt.alloc();
-    let sent = many_headers(alloc, 1024)?;
-    plays(&rt, alloc, &sent, Status::Done, b"sent 0 to none\n")?;
-    let most = many_headers(alloc, 1152)?;
-    plays(
-        &rt,
-        alloc,
-        &most,
-        Status::Done,
-        b"refused 10 too large 1024\n",
-    )?;
-    let more = many_headers(alloc, 1153)?;
-    plays(&rt, alloc, &more, bad(1, LineWhy::Form), b"")
+    plays(&rt, alloc, &longer, bad(1, LineWhy::Form), b"")
 }
 
 /// A request that is failed with a text of this length.
