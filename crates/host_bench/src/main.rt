@@ -27,15 +27,15 @@ fn refused() -> Result<Duration> {
     Err(anyhow!("a call was refused"))
 }
 
-fn timed_hub<R: Clock>(rt: &R, hub: &mut Hub) -> Result<Duration> {
+fn timed_hub<R: Clock>(rt: &R, alloc: Global, hub: &mut Hub) -> Result<Duration> {
     let start = Instant::now(rt)?;
-    match hub_exchange_many(hub, "one", MESSAGES) {
+    match hub_exchange_many(alloc, hub, "one", MESSAGES) {
         true => Ok(start.elapsed(rt)?),
         false => refused(),
     }
 }
 
-fn timed_host<R: Wait + Clock>(rt: &R, host: &Host, pass: Pass) -> Result<Duration>
+fn timed_host<R: Wait + Clock + AllocGlobal>(rt: &R, host: &Host, pass: Pass) -> Result<Duration>
     requires { place_of pass ≡ place host.now.shared }
 {
     let start = Instant::now(rt)?;
@@ -45,7 +45,7 @@ fn timed_host<R: Wait + Clock>(rt: &R, host: &Host, pass: Pass) -> Result<Durati
     }
 }
 
-fn timed_both<R: Threads + Wait + Clock + Sync>(
+fn timed_both<R: Threads + Wait + Clock + Sync + AllocGlobal>(
     rt: &R,
     host: &Host,
     one: Pass,
@@ -64,18 +64,22 @@ fn timed_both<R: Threads + Wait + Clock + Sync>(
 /// The hub, without a host round it.
 fn hub_alone<R: Clock>(rt: &R, alloc: Global) -> Result<Duration> {
     let mut hub = Hub::new(alloc);
-    timed_hub(rt, &mut hub)
+    timed_hub(rt, alloc, &mut hub)
 }
 
 /// One pass calls the host, without another.
-fn host_alone<R: Wait + Clock>(rt: &R, alloc: Global) -> Result<Duration> {
+fn host_alone<R: Wait + Clock + AllocGlobal>(rt: &R, alloc: Global) -> Result<Duration> {
     match Host::open(alloc) {
         Ok((host, pass)) => timed_host(rt, &host, pass),
         Err(_) => Err(anyhow!("no memory")),
     }
 }
 
-fn timed_two<R: Threads + Wait + Clock + Sync>(rt: &R, host: &Host, one: Pass) -> Result<Duration>
+fn timed_two<R: Threads + Wait + Clock + Sync + AllocGlobal>(
+    rt: &R,
+    host: &Host,
+    one: Pass,
+) -> Result<Duration>
     requires { place_of one ≡ place host.now.shared }
 {
     match host.split(rt, one) {
@@ -85,7 +89,10 @@ fn timed_two<R: Threads + Wait + Clock + Sync>(rt: &R, host: &Host, one: Pass) -
 }
 
 /// Two passes call it against each other, each on a thread.
-fn host_by_two<R: Threads + Wait + Clock + Sync>(rt: &R, alloc: Global) -> Result<Duration> {
+fn host_by_two<R: Threads + Wait + Clock + Sync + AllocGlobal>(
+    rt: &R,
+    alloc: Global,
+) -> Result<Duration> {
     match Host::open(alloc) {
         Ok((host, pass)) => timed_two(rt, &host, pass),
         Err(_) => Err(anyhow!("no memory")),
@@ -110,7 +117,11 @@ impl Times {
     }
 
     /// With one round more.
-    fn plus<R: Threads + Wait + Clock + Sync>(&self, rt: &R, alloc: Global) -> Result<Times> {
+    fn plus<R: Threads + Wait + Clock + Sync + AllocGlobal>(
+        &self,
+        rt: &R,
+        alloc: Global,
+    ) -> Result<Times> {
         let hub_alone = hub_alone(rt, alloc)?;
         let host_alone = host_alone(rt, alloc)?;
         let host_by_two = host_by_two(rt, alloc)?;

@@ -3,9 +3,10 @@ ghost use Rattle.std.specs.Prelude.{◌≡◌, true};
 ghost use Rattle.vx_call.specs.Plain.{is_plain};
 ghost use Rattle.vx_turn.specs.Passes.{place, place_of};
 
+use std::alloc::Global;
 use std::sync::Wait;
 use std::thread::{Threads, join};
-use vx_call::{Call, End, Lane, Reply, To, Unmade};
+use vx_call::{Call, End, Lane, Options, Reply, To, Unmade};
 use vx_data::{Body, ContextId, PassNo, Text};
 use vx_host::{Host, Pass};
 use vx_hub::Hub;
@@ -22,15 +23,17 @@ fn register(context: ContextId, address: &'static str) -> Call
     Call::Register {
         context,
         address: Text::constant(address),
+        limit: 1000,
     }
 }
 
-fn send(address: &'static str) -> Call
+fn send(alloc: Global, address: &'static str) -> Call
     ensures { is_plain result ≡ true }
 {
     Call::Send {
         address: Text::constant(address),
         body: Body::int(7),
+        options: Options::none(alloc),
     }
 }
 
@@ -58,23 +61,47 @@ fn hub_lane(hub: &mut Hub, address: &'static str) -> Option<Lane> {
     Some(Lane::Own(context))
 }
 
-fn hub_exchange(hub: &mut Hub, lane: Lane, address: &'static str) -> bool {
-    let sent = is_sent(&hub.step(PASS, send(address)));
+fn hub_exchange(alloc: Global, hub: &mut Hub, lane: Lane, address: &'static str) -> bool {
+    let sent = is_sent(&hub.step(PASS, send(alloc, address)));
     let taken = is_task(&hub.take(PASS, lane));
     let finished = hub.finish(PASS, End::Done).is_ok();
     sent && taken && finished
 }
 
 /// Sends messages through a hub, one after another: whether all calls were accepted.
-pub fn hub_exchange_many(hub: &mut Hub, address: &'static str, count: u64) -> bool {
+pub fn hub_exchange_many(alloc: Global, hub: &mut Hub, address: &'static str, count: u64) -> bool {
     let Some(lane) = hub_lane(hub, address) else {
         return false;
     };
     let mut accepted = true;
     for _ in 0..count {
-        accepted &= hub_exchange(hub, lane, address);
+        accepted &= hub_exchange(alloc, hub, lane, address);
     }
     accepted
+}
+
+/// A context of the pass.
+fn context<R: Wait>(rt: &R, host: &Host, pass: Pass) -> (Pass, Option<ContextId>)
+    requires { place_of pass ≡ place host.now.shared }
+    ensures { place_of result.0 ≡ place_of pass }
+{
+    let made = host.apply(rt, pass, Call::NewContext);
+    let context = context_in(&made.result);
+    (made.pass, context)
+}
+
+/// With a consumer of the context at an address.
+fn registered<R: Wait>(
+    rt: &R,
+    host: &Host,
+    pass: Pass,
+    context: ContextId,
+    address: &'static str,
+) -> Pass
+    requires { place_of pass ≡ place host.now.shared }
+    ensures { place_of result ≡ place_of pass }
+{
+    host.apply(rt, pass, register(context, address)).pass
 }
 
 /// The lane of a context of the pass, with a consumer at an address.
@@ -82,17 +109,17 @@ fn lane<R: Wait>(rt: &R, host: &Host, pass: Pass, address: &'static str) -> (Pas
     requires { place_of pass ≡ place host.now.shared }
     ensures { place_of result.0 ≡ place_of pass }
 {
-    let made = host.apply(rt, pass, Call::NewContext);
-    match context_in(&made.result) {
+    let (pass, context) = context(rt, host, pass);
+    match context {
         Some(context) => {
-            let registered = host.apply(rt, made.pass, register(context, address));
-            (registered.pass, Some(Lane::Own(context)))
+            let pass = registered(rt, host, pass, context, address);
+            (pass, Some(Lane::Own(context)))
         }
-        None => (made.pass, None),
+        None => (pass, None),
     }
 }
 
-fn exchange<R: Wait>(
+fn exchange<R: Wait + AllocGlobal>(
     rt: &R,
     host: &Host,
     pass: Pass,
@@ -102,7 +129,7 @@ fn exchange<R: Wait>(
     requires { place_of pass ≡ place host.now.shared }
     ensures { place_of result.0 ≡ place_of pass }
 {
-    let sent = host.apply(rt, pass, send(address));
+    let sent = host.apply(rt, pass, send(rt.alloc(), address));
     let is_sent = is_sent(&sent.result);
     let (pass, taken) = host.take(rt, sent.pass, lane);
     let is_taken = is_task(&taken);
@@ -111,7 +138,7 @@ fn exchange<R: Wait>(
 }
 
 /// Sends messages through a host, one after another: whether all calls were accepted.
-pub fn exchange_many<R: Wait>(
+pub fn exchange_many<R: Wait + AllocGlobal>(
     rt: &R,
     host: &Host,
     pass: Pass,
@@ -127,7 +154,7 @@ pub fn exchange_many<R: Wait>(
     }
 }
 
-fn exchange_each<R: Wait>(
+fn exchange_each<R: Wait + AllocGlobal>(
     rt: &R,
     host: &Host,
     mut pass: Pass,
@@ -147,7 +174,12 @@ fn exchange_each<R: Wait>(
 }
 
 /// Two passes do so against each other, each on a thread.
-pub fn both<R: Threads + Wait + Sync>(rt: &R, host: &Host, one: Pass, two: Pass) -> bool
+pub fn both<R: Threads + Wait + Sync + AllocGlobal>(
+    rt: &R,
+    host: &Host,
+    one: Pass,
+    two: Pass,
+) -> bool
     requires one { place_of one ≡ place host.now.shared }
     requires two { place_of two ≡ place host.now.shared }
 {

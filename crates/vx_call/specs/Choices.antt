@@ -1,7 +1,7 @@
 -- Which handler a message goes to. (Vert.x core manual, "Point-to-point and Request-Response messaging": a message
 -- that is sent goes to one of the handlers at the address, chosen by a round robin that is not strict.)
 -- Strict turns are this project's own.
-use Rattle.std.specs.Prelude.{ℕ, ◌%◌, Bool, true, false, not, ◌&&◌, if◌then◌else◌, List, [], ◌∷◌, ◌++◌, length, slice_get, Option}
+use Rattle.std.specs.Prelude.{ℕ, ◌%◌, Bool, true, false, not, ◌&&◌, if◌then◌else◌, List, [], ◌∷◌, ◌++◌, length, slice_get, is_some, Option}
 use Rattle.std.specs.List.{count_by}
 use Rattle.std.specs.Str.{bytes_eq}
 use Rattle.vx_call.specs.declared.call.Call.{Call}
@@ -10,19 +10,21 @@ use Rattle.vx_call.specs.declared.history.Consumer.{Consumer}
 use Rattle.vx_call.specs.declared.history.Traced.{Traced}
 use Rattle.vx_call.specs.History.{Kind, lasting}
 use Rattle.vx_call.specs.Consumers.{handlers}
+use Rattle.vx_call.specs.Messages.{sent}
 
 abbrev pub is_empty : {A : Type 0} → List A → Bool
 is_empty [] = true
 is_empty (x ∷ xs) = false
 
--- a choice at an address, where there are handlers
-abbrev pub chosen_at : List Traced → List ℕ → List (List ℕ)
-chosen_at before address = if is_empty (handlers before address) then [] else address ∷ []
+-- a choice at an address, where a message is sent there and there are handlers
+abbrev pub chosen_at : List Traced → Bool → List ℕ → List (List ℕ)
+chosen_at before is_sent address = if is_sent && not (is_empty (handlers before address)) then address ∷ [] else []
 
--- a Send and a Request choose at their address
+-- A Send and a Request choose at their address, where no rule stops them as they are sent. What becomes of the message
+-- then is no matter.
 abbrev pub choice_made : List Traced → Call → List (List ℕ)
-choice_made before (calls.Send address body) = chosen_at before address
-choice_made before (calls.Request context address body timeout) = chosen_at before address
+choice_made before (calls.Send address body options) = chosen_at before (is_some (sent before (calls.Send address body options))) address
+choice_made before (calls.Request context address body options timeout) = chosen_at before (is_some (sent before (calls.Request context address body options timeout))) address
 choice_made before _ = []
 
 -- the address lost its last handler

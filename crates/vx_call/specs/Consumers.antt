@@ -12,7 +12,8 @@ use Rattle.vx_data.specs.Ids.{same_consumer}
 use Rattle.vx_call.specs.Names.{next_consumer}
 
 abbrev pub consumer_made : List Traced → Call → List Consumer
-consumer_made before (calls.Register context address) = record { id = next_consumer before; context = context; address = address } ∷ []
+consumer_made before (calls.Register context address limit) =
+    record { id = next_consumer before; context = context; address = address; limit = limit } ∷ []
 consumer_made before _ = []
 
 -- whether an entry ends a consumer: the one test for all ways to end one

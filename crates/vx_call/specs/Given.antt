@@ -26,8 +26,8 @@ pub record Asked : Type 0 where
   pub asker : ContextId
 
 abbrev pub asked_made : List Traced → Call → List Asked
-asked_made before (calls.Request context address body timeout) = record { id = next_message before; asker = context } ∷ []
-asked_made before (calls.ReplyRequest message context body timeout) = record { id = next_message before; asker = context } ∷ []
+asked_made before (calls.Request context address body options timeout) = record { id = next_message before; asker = context } ∷ []
+asked_made before (calls.ReplyRequest message context body options timeout) = record { id = next_message before; asker = context } ∷ []
 asked_made before _ = []
 
 abbrev pub asked_kind : Kind Asked
@@ -47,7 +47,7 @@ context_of history (tasks.Outcome request outcome) = asker history request
 
 -- an outcome gives a message out where the reply asks again
 abbrev pub given_by_outcome : Option ContextId → Outcome → List Given
-given_by_outcome receiver (outcomes.Ok body (Some again)) = record { id = again; receiver = receiver; request = true } ∷ []
+given_by_outcome receiver (outcomes.Ok headers body (Some again)) = record { id = again; receiver = receiver; request = true } ∷ []
 given_by_outcome receiver _ = []
 
 abbrev pub given_by_task : Option ContextId → Task → List Given

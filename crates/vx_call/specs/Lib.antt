@@ -3,7 +3,12 @@ pub mod Names
 pub mod Passes
 pub mod Contexts
 pub mod Consumers
+pub mod Codecs
+pub mod Rules
+pub mod Messages
 pub mod Choices
+pub mod Arrivals
+pub mod Mailboxes
 pub mod Given
 pub mod Requests
 pub mod Settled

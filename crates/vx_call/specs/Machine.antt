@@ -8,20 +8,27 @@ use Rattle.vx_call.specs.declared.history.Traced.{Traced}
 use Rattle.vx_call.specs.History.{plain_entry}
 use Rattle.vx_call.specs.Refusals.{unless_refused, spent, is_spent}
 use Rattle.vx_call.specs.Passes.{passes}
-use Rattle.vx_call.specs.Rows.{new_pass_row, new_context_row, register_row, unregister_row, send_row, publish_row, request_row, reply_row, fail_row, reply_request_row, advance_row, take_row, finish_row}
+use Rattle.vx_call.specs.Rows.{new_pass_row, new_context_row, register_row, consumer_row, fetch_row, send_row, publish_row, request_row, reply_row, fail_row, reply_request_row, add_codec_row, remove_codec_row, add_rule_row, remove_rule_row, advance_row, take_row, finish_row}
 
 -- the reply to a call of a pass, where the history is not spent
 abbrev pub row : List Traced → PassNo → Call → Reply
 row history pass calls.NewPass = new_pass_row history
 row history pass calls.NewContext = new_context_row history pass
-row history pass (calls.Register context address) = register_row history pass context address
-row history pass (calls.Unregister id) = unregister_row history pass id
-row history pass (calls.Send address body) = send_row history address
-row history pass (calls.Publish address body) = publish_row history address
-row history pass (calls.Request context address body timeout) = request_row history pass context address timeout
-row history pass (calls.Reply message body) = reply_row history pass message
+row history pass (calls.Register context address limit) = register_row history pass context address limit
+row history pass (calls.Unregister id) = consumer_row history pass id
+row history pass (calls.Pause id) = consumer_row history pass id
+row history pass (calls.Resume id) = consumer_row history pass id
+row history pass (calls.Fetch id count) = fetch_row history pass id count
+row history pass (calls.Send address body options) = send_row history address body options
+row history pass (calls.Publish address body options) = publish_row history address body options
+row history pass (calls.Request context address body options timeout) = request_row history pass context address body options timeout
+row history pass (calls.Reply message body options) = reply_row history pass message body options
 row history pass (calls.Fail message code text) = fail_row history pass message text
-row history pass (calls.ReplyRequest message context body timeout) = reply_request_row history pass message context timeout
+row history pass (calls.ReplyRequest message context body options timeout) = reply_request_row history pass message context body options timeout
+row history pass (calls.AddCodec name form) = add_codec_row history name form
+row history pass (calls.RemoveCodec name) = remove_codec_row history name
+row history pass (calls.AddRule side condition verdict) = add_rule_row history side verdict
+row history pass (calls.RemoveRule id) = remove_rule_row history id
 row history pass (calls.Advance moment) = advance_row history moment
 row history pass (calls.Take lane) = take_row history pass lane
 row history pass (calls.Finish end) = finish_row history pass

@@ -12,7 +12,11 @@ is_plain _ = true
 abbrev pub takes_no_memory : Call → Bool
 takes_no_memory calls.NewPass = true
 takes_no_memory (calls.Unregister id) = true
-takes_no_memory (calls.Reply message body) = true
+takes_no_memory (calls.Pause id) = true
+takes_no_memory (calls.Resume id) = true
+takes_no_memory (calls.Fetch id count) = true
 takes_no_memory (calls.Fail message code text) = true
+takes_no_memory (calls.RemoveCodec name) = true
+takes_no_memory (calls.RemoveRule id) = true
 takes_no_memory (calls.Advance moment) = true
 takes_no_memory _ = false

@@ -1,5 +1,12 @@
 -- Why calls are refused. All of this file is this project's own.
-use Rattle.std.specs.Prelude.{ℕ, ◌==◌, ◌^◌, nat_lt, nat_le, is_none, Bool, not, ◌||◌, if◌then◌else◌, List, length, Option, None, Some}
+use Rattle.std.specs.Prelude.{ℕ, ◌+◌, ◌==◌, ◌^◌, nat_lt, nat_le, is_none, Bool, not, ◌||◌, if◌then◌else◌, List, [], ◌∷◌, length, Option, None, Some}
+use Rattle.std.specs.List.{list_any}
+use Rattle.std.specs.Option.{option_or}
+use Rattle.vx_data.specs.Bodies.{tree_depth}
+use Rattle.vx_data.specs.BodyText.{body_text}
+use Rattle.vx_data.specs.HeaderLists.{header_bytes}
+use Rattle.vx_data.specs.Tree.{Tree}
+use Rattle.vx_data.specs.declared.ids.RuleId.{RuleId}
 use Rattle.vx_data.specs.declared.ids.PassNo.{PassNo}
 use Rattle.vx_data.specs.declared.ids.ContextId.{ContextId}
 use Rattle.vx_data.specs.declared.ids.ConsumerId.{ConsumerId}
@@ -8,6 +15,13 @@ use Rattle.vx_message.specs.declared.Given.{Given}
 use Rattle.vx_message.specs.declared.OutsideContext.{OutsideContext}
 use Rattle.vx_message.specs.declared.Owner.TheVariants as owners
 use Rattle.vx_message.specs.declared.Held.{Held}
+use Rattle.vx_message.specs.declared.Options.{Options}
+use Rattle.vx_message.specs.declared.rules.Codec.{Codec}
+use Rattle.vx_message.specs.declared.rules.CodecForm.{CodecForm}
+use Rattle.vx_message.specs.declared.rules.CodecForm.TheVariants as forms
+use Rattle.vx_message.specs.declared.rules.Side.{Side}
+use Rattle.vx_message.specs.declared.rules.Verdict.{Verdict}
+use Rattle.vx_message.specs.Rules.{rules_of, verdict_bytes}
 use Rattle.vx_message.specs.declared.Lane.{Lane}
 use Rattle.vx_message.specs.declared.Lane.TheVariants as lanes
 use Rattle.vx_call.specs.declared.reply.Refusal.{Refusal}
@@ -21,6 +35,8 @@ use Rattle.vx_call.specs.Consumers.{live}
 use Rattle.vx_call.specs.Given.{given}
 use Rattle.vx_call.specs.Settled.{Settled, settled}
 use Rattle.vx_call.specs.Held.{holding}
+use Rattle.vx_call.specs.Codecs.{codecs, codec_at}
+use Rattle.vx_call.specs.Rules.{rules, rule_at}
 
 abbrev pub refused_if : Bool → Refusal → Option Refusal
 refused_if test refusal = if test then Some refusal else None
@@ -121,10 +137,76 @@ is_bad_address address = (length address == 0) || nat_lt 1024 (length address)
 abbrev pub bad_address : List ℕ → Option Refusal
 bad_address address = refused_if (is_bad_address address) refusals.BadAddress
 
+-- at most so much
+abbrev pub over : ℕ → ℕ → Option Refusal
+over limit amount = refused_if (nat_lt limit amount) (refusals.TooLarge limit)
+
 -- the text of a failure has at most 65,536 bytes
-abbrev pub too_large : List ℕ → Option Refusal
-too_large text = refused_if (nat_lt 65536 (length text)) (refusals.TooLarge 65536)
+abbrev pub long_failure : List ℕ → Option Refusal
+long_failure text = over 65536 (length text)
+
+-- a message, or a reply, has a body of at most 1,048,576 bytes of JSON text and of depth 100, and at most 1,024 headers
+-- of 65,536 bytes
+abbrev pub too_large : Tree → Options → Option Refusal
+too_large body options =
+    option_or (over 1048576 (length (body_text body)))
+    (option_or (over 100 (tree_depth body))
+    (option_or (over 1024 (length options.headers)) (over 65536 (header_bytes options.headers))))
+
+-- at most 1 to 100,000 messages are held for a consumer as they arrive
+abbrev pub bad_limit : ℕ → Option Refusal
+bad_limit limit = refused_if ((limit == 0) || nat_lt 100000 limit) refusals.BadCount
+
+abbrev pub bad_fetch : ℕ → Option Refusal
+bad_fetch count = refused_if (count == 0) refusals.BadCount
 
 -- a timeout is 1 to 1,000,000,000,000 ms
 abbrev pub bad_delay : ℕ → Option Refusal
 bad_delay timeout = refused_if ((timeout == 0) || nat_lt 1000000000000 timeout) refusals.BadDelay
+
+-- ## Codecs and rules
+
+abbrev pub no_codec : List Traced → List ℕ → Option Refusal
+no_codec history name = refused_if (is_none (codec_at history name)) refusals.NoCodec
+
+-- a message may name a codec that is there
+abbrev pub no_such_codec : List Traced → Option (List ℕ) → Option Refusal
+no_such_codec history None = None
+no_such_codec history (Some name) = no_codec history name
+
+abbrev pub taken_by : Option Codec → Option Refusal
+taken_by None = None
+taken_by (Some codec) = Some (refusals.CodecTaken codec.id.0)
+
+abbrev pub codec_taken : List Traced → List ℕ → Option Refusal
+codec_taken history name = taken_by (codec_at history name)
+
+-- the keys that a codec's form names
+abbrev pub keys_of : CodecForm → List (List ℕ)
+keys_of forms.Copy = []
+keys_of (forms.KeepKeys keys) = keys
+keys_of (forms.DropKeys keys) = keys
+keys_of (forms.Wrap key) = key ∷ []
+
+-- a form names at most 64 keys
+abbrev pub many_keys : CodecForm → Option Refusal
+many_keys form = over 64 (length (keys_of form))
+
+-- a key has at most 1,024 bytes
+abbrev pub long_key : CodecForm → Option Refusal
+long_key form = refused_if (list_any (λ key. nat_lt 1024 (length key)) (keys_of form)) (refusals.TooLarge 1024)
+
+-- there are at most 256 codecs
+abbrev pub many_codecs : List Traced → Option Refusal
+many_codecs history = over 256 (length (codecs history) + 1)
+
+-- what a rule adds has at most 1,024 bytes
+abbrev pub long_addition : Verdict → Option Refusal
+long_addition verdict = over 1024 (verdict_bytes verdict)
+
+-- a side has at most 64 rules
+abbrev pub many_rules : List Traced → Side → Option Refusal
+many_rules history side = over 64 (length (rules_of side (rules history)) + 1)
+
+abbrev pub no_rule : List Traced → RuleId → Option Refusal
+no_rule history id = refused_if (is_none (rule_at history id)) refusals.NoRule

@@ -1,8 +1,7 @@
 -- Requests that are open, and what settles them. (Vert.x core manual, "Point-to-point and Request-Response messaging",
 -- "Sending with timeouts" and "Send failures". That a request fails at once where nobody can answer it any more, and
 -- that time is told by Advance, is this project's own.)
-use Rattle.std.specs.Prelude.{ℕ, ◌+◌, nat_le, max, fold, Bool, false, not, ◌&&◌, if◌then◌else◌, List, [], ◌∷◌, filter, Option, None, Some}
-use Rattle.std.specs.Option.{option_map, option_to_list}
+use Rattle.std.specs.Prelude.{ℕ, ◌+◌, nat_le, max, fold, Bool, false, not, ◌&&◌, if◌then◌else◌, List, [], ◌∷◌, map, filter, Option, None, Some}
 use Rattle.vx_data.specs.declared.ids.ContextId.{ContextId}
 use Rattle.vx_data.specs.declared.ids.ConsumerId.{ConsumerId}
 use Rattle.vx_data.specs.declared.ids.MessageId.{MessageId}
@@ -13,7 +12,7 @@ use Rattle.vx_call.specs.declared.history.Traced.{Traced}
 use Rattle.vx_call.specs.History.{Kind, lasting}
 use Rattle.vx_data.specs.Ids.{same_message, same_consumer}
 use Rattle.vx_call.specs.Names.{next_message}
-use Rattle.vx_call.specs.Choices.{choice}
+use Rattle.vx_call.specs.Mailboxes.{accepting}
 use Rattle.vx_call.specs.Given.{is_given}
 
 -- ## Time
@@ -46,8 +45,8 @@ abbrev pub opened : List Traced → ContextId → ℕ → Consumer → Open
 opened before context timeout consumer = record { id = next_message before; asker = context; due = now before + timeout; receiver = Some consumer.id }
 
 abbrev pub open_made : List Traced → Call → List Open
-open_made before (calls.Request context address body timeout) = option_to_list (option_map (opened before context timeout) (choice before address))
-open_made before (calls.ReplyRequest message context body timeout) = record { id = next_message before; asker = context; due = now before + timeout; receiver = None } ∷ []
+open_made before (calls.Request context address body options timeout) = map (opened before context timeout) (accepting before (calls.Request context address body options timeout))
+open_made before (calls.ReplyRequest message context body options timeout) = record { id = next_message before; asker = context; due = now before + timeout; receiver = None } ∷ []
 open_made before _ = []
 
 -- whether the consumer had accepted the message of a request, and no Take gave it out
@@ -57,9 +56,9 @@ is_lost_with before id request (Some receiver) = same_consumer id receiver && no
 
 -- Whether a call settles an open request: it replies to it or fails it, its time is up, or the consumer ends that alone could have replied.
 abbrev pub settles : List Traced → Call → Open → Bool
-settles before (calls.Reply message body) request = same_message message request.id
+settles before (calls.Reply message body options) request = same_message message request.id
 settles before (calls.Fail message code text) request = same_message message request.id
-settles before (calls.ReplyRequest message context body timeout) request = same_message message request.id
+settles before (calls.ReplyRequest message context body options timeout) request = same_message message request.id
 settles before (calls.Advance moment) request = nat_le request.due (max (now before) moment)
 settles before (calls.Unregister id) request = is_lost_with before id request request.receiver
 settles before _ request = false

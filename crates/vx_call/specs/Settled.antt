@@ -4,6 +4,8 @@ use Rattle.std.specs.Prelude.{ℕ, ℤ, negsuc, codes, false, List, [], ◌∷�
 use Rattle.vx_data.specs.declared.ids.EntryNo.{EntryNo}
 use Rattle.vx_data.specs.declared.ids.ContextId.{ContextId}
 use Rattle.vx_data.specs.declared.ids.MessageId.{MessageId}
+use Rattle.vx_data.specs.Tree.{Tree}
+use Rattle.vx_message.specs.declared.Options.{Options}
 use Rattle.vx_message.specs.declared.FailureKind.{FailureKind}
 use Rattle.vx_message.specs.declared.FailureKind.TheVariants as failures
 use Rattle.vx_message.specs.declared.Outcome.{Outcome}
@@ -15,7 +17,8 @@ use Rattle.vx_call.specs.declared.history.Traced.{Traced}
 use Rattle.vx_call.specs.History.{Kind, lasting}
 use Rattle.vx_data.specs.Ids.{same_message}
 use Rattle.vx_call.specs.Names.{next_entry, next_message}
-use Rattle.vx_call.specs.Choices.{choice}
+use Rattle.vx_call.specs.Codecs.{coded}
+use Rattle.vx_call.specs.Mailboxes.{accepting}
 use Rattle.vx_call.specs.Requests.{Open, settled_by, by_due}
 
 -- a request that has ended: the entry that settled it, and the outcome that its asker gets
@@ -38,17 +41,21 @@ no_handlers = failed failures.NoHandlers (negsuc 0) (codes "no_handlers")
 abbrev pub settlements : List Traced → Outcome → List Open → List Settled
 settlements before outcome settled = map (λ (request : Open). record { request = request.id; at = next_entry before; asker = request.asker; outcome = outcome }) settled
 
--- a request whose message reached nobody is settled at its own entry
-abbrev pub settled_unheard : List Traced → ContextId → Option Consumer → List Settled
-settled_unheard before asker None = record { request = next_message before; at = next_entry before; asker = asker; outcome = no_handlers } ∷ []
-settled_unheard before asker (Some consumer) = []
+-- a request whose message nobody accepts is settled at its own entry
+abbrev pub settled_unheard : List Traced → ContextId → List Consumer → List Settled
+settled_unheard before asker [] = record { request = next_message before; at = next_entry before; asker = asker; outcome = no_handlers } ∷ []
+settled_unheard before asker (consumer ∷ others) = []
+
+-- a reply with these headers and this body, behind the codec that it names
+abbrev pub replied : List Traced → Tree → Options → Option MessageId → Outcome
+replied before body options again = outcomes.Ok options.headers (coded before options.codec body) again
 
 -- what an entry settles: by (due moment, id) where their time is up, and else by id
 abbrev pub settled_made : List Traced → Call → List Settled
-settled_made before (calls.Request context address body time) = settled_unheard before context (choice before address)
-settled_made before (calls.Reply message body) = settlements before (outcomes.Ok body None) (settled_by before (calls.Reply message body))
+settled_made before (calls.Request context address body options time) = settled_unheard before context (accepting before (calls.Request context address body options time))
+settled_made before (calls.Reply message body options) = settlements before (replied before body options None) (settled_by before (calls.Reply message body options))
 settled_made before (calls.Fail message code text) = settlements before (failed failures.RecipientFailure code text) (settled_by before (calls.Fail message code text))
-settled_made before (calls.ReplyRequest message context body time) = settlements before (outcomes.Ok body (Some (next_message before))) (settled_by before (calls.ReplyRequest message context body time))
+settled_made before (calls.ReplyRequest message context body options time) = settlements before (replied before body options (Some (next_message before))) (settled_by before (calls.ReplyRequest message context body options time))
 settled_made before (calls.Advance moment) = settlements before timeout (by_due (settled_by before (calls.Advance moment)))
 settled_made before (calls.Unregister id) = settlements before no_handlers (settled_by before (calls.Unregister id))
 settled_made before _ = []

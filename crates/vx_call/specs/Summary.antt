@@ -11,10 +11,10 @@ use Rattle.vx_call.specs.History.{is_accepted}
 
 -- whether a call makes a message, where it is accepted
 abbrev pub makes_message : Call → Bool
-makes_message (calls.Send address body) = true
-makes_message (calls.Publish address body) = true
-makes_message (calls.Request context address body timeout) = true
-makes_message (calls.ReplyRequest message context body timeout) = true
+makes_message (calls.Send address body options) = true
+makes_message (calls.Publish address body options) = true
+makes_message (calls.Request context address body options timeout) = true
+makes_message (calls.ReplyRequest message context body options timeout) = true
 makes_message _ = false
 
 -- whether the reply hands a message to a consumer

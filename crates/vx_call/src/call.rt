@@ -1,8 +1,8 @@
 ghost use Rattle.std.specs.Prelude.{◌≡◌};
 ghost use Rattle.vx_call.specs.Plain.{is_plain};
 
-use vx_data::{Body, ConsumerId, ContextId, MessageId, Moment, Text};
-use vx_message::Lane;
+use vx_data::{Body, ConsumerId, ContextId, MessageId, Moment, RuleId, Text};
+use vx_message::{CodecForm, Condition, Lane, Options, Side, Verdict};
 
 /// How a task ends.
 #[derive(Clone, Copy, Debug, PartialEq, Eq)]
@@ -17,22 +17,32 @@ pub enum Call {
     NewPass,
     /// Makes an outside context of this pass.
     NewContext,
-    /// Registers a consumer of a context at an address of 1 to 1,024 bytes.
+    /// Registers a consumer of a context at an address of 1 to 1,024 bytes. At most `limit` messages, from 1 to
+    /// 100,000, are held for it as they arrive. (`MessageConsumer.setMaxBufferedMessages`.)
     Register {
         context: ContextId,
         address: Text,
+        limit: u32,
     },
     /// Ends a consumer, and the messages that wait for it.
     Unregister(ConsumerId),
+    /// Makes no more messages ready for a consumer, and holds again those that were not taken. (`MessageConsumer.pause`.)
+    Pause(ConsumerId),
+    /// Makes every message of a consumer ready, those that come later too. (`MessageConsumer.resume`.)
+    Resume(ConsumerId),
+    /// Makes so many more messages of a paused consumer ready, at least 1. (`MessageConsumer.fetch`.)
+    Fetch(ConsumerId, u32),
     /// Sends a message to one of the consumers at an address of 1 to 1,024 bytes.
     Send {
         address: Text,
         body: Body,
+        options: Options,
     },
     /// Sends a message to all consumers at an address of 1 to 1,024 bytes.
     Publish {
         address: Text,
         body: Body,
+        options: Options,
     },
     /// Sends a message to one of the consumers at an address of 1 to 1,024 bytes. The context gets the reply, or learns
     /// that none came in time, from 1 to 1,000,000,000,000 ms.
@@ -40,12 +50,14 @@ pub enum Call {
         context: ContextId,
         address: Text,
         body: Body,
+        options: Options,
         timeout: u64,
     },
     /// Replies to a request that this pass's context was given.
     Reply {
         message: MessageId,
         body: Body,
+        options: Options,
     },
     /// Fails a request that this pass's context was given, with a text of at most 65,536 bytes.
     Fail {
@@ -58,8 +70,26 @@ pub enum Call {
         message: MessageId,
         context: ContextId,
         body: Body,
+        options: Options,
         timeout: u64,
     },
+    /// Adds a codec under a name of 1 to 1,024 bytes, which no codec has. Its form names at most 64 keys, of at most 1,024
+    /// bytes each. (`EventBus.registerCodec`.)
+    AddCodec {
+        name: Text,
+        form: CodecForm,
+    },
+    /// Removes a codec. (`EventBus.unregisterCodec`.)
+    RemoveCodec(Text),
+    /// Adds a rule for the messages that pass one way. The name and the value that it adds have together at most 1,024
+    /// bytes. (`EventBus.addInboundInterceptor` and `addOutboundInterceptor`.)
+    AddRule {
+        side: Side,
+        condition: Condition,
+        verdict: Verdict,
+    },
+    /// Removes a rule. (`EventBus.removeInboundInterceptor` and `removeOutboundInterceptor`.)
+    RemoveRule(RuleId),
     /// Tells the time, in ms. Requests whose time is up by now fail. The time never goes back.
     Advance(Moment),
     /// Takes the next task of a lane.

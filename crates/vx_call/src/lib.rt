@@ -12,4 +12,4 @@ pub use call::{Call, End};
 pub use history::{Consumer, Entry, Traced};
 pub use reply::{Refusal, Reply, Task, To};
 pub use unmade::Unmade;
-pub use vx_message::Lane;
+pub use vx_message::{CodecForm, Condition, Lane, Options, Side, Verdict};

@@ -1,4 +1,4 @@
-use vx_data::{ConsumerId, ContextId, EntryNo, List, MessageId, PassNo};
+use vx_data::{CodecId, ConsumerId, ContextId, EntryNo, List, MessageId, PassNo, RuleId};
 use vx_message::{Message, Outcome, Owner};
 
 /// What a message reached.
@@ -6,6 +6,10 @@ use vx_message::{Message, Outcome, Owner};
 pub enum To {
     /// No consumer is at the address.
     None,
+    /// A rule stopped the message.
+    Stopped,
+    /// The buffer of this consumer is full.
+    Lost(ConsumerId),
     Consumer(ConsumerId),
     /// The context that waits for a reply.
     Asker,
@@ -42,7 +46,10 @@ pub enum Refusal {
     NoLane,
     /// The address has no bytes, or more than 1,024.
     BadAddress,
-    /// A text is longer than this limit, in bytes.
+    /// Something is larger than this limit: a failure's text (65,536 bytes); a body's JSON text (1,048,576 bytes) or its
+    /// depth (100); the headers of a message (1,024 pairs, 65,536 bytes); the key names of a codec (64), one of them
+    /// (1,024 bytes), or the codecs that are there (256); the name and value that a rule adds (1,024 bytes), or the rules
+    /// of one side (64).
     TooLarge(u32),
     /// No Take gave the message out.
     NoMessage,
@@ -50,8 +57,16 @@ pub enum Refusal {
     NotRequest,
     /// The request has ended at this entry.
     Late(EntryNo),
+    /// The limit of a consumer is not from 1 to 100,000, or no message is fetched.
+    BadCount,
     /// The timeout is not from 1 to 1,000,000,000,000 ms.
     BadDelay,
+    /// No codec has the name.
+    NoCodec,
+    /// A codec has the name, which this entry added.
+    CodecTaken(EntryNo),
+    /// The rule is not there.
+    NoRule,
     /// The history has 2^48 entries. This refusal adds none.
     Spent,
 }
@@ -64,10 +79,12 @@ pub enum Reply {
     Consumer(ConsumerId),
     /// What the message reached.
     Sent(To),
-    /// The consumers that the message reached, in order of registration.
+    /// The consumers that accepted the message, in order of registration.
     Published(List<ConsumerId>),
     /// What the request reached.
     Asked(To),
+    Codec(CodecId),
+    Rule(RuleId),
     Task(Task),
     /// The lane has no next task.
     Idle,

@@ -138,7 +138,7 @@ impl Contexts {
     /// Leaves out the messages that wait for a consumer.
     pub fn cancel(&mut self, consumer: ConsumerId)
         ensures left { self.new ≡ record self.old { waiting = filter (λ (item : Item). not (is_item_for consumer item.kind)) self.old.waiting; room = self.new.room } }
-        ensures room { self.old.room ≤ self.new.room }
+        ensures room { self.old.room + length self.old.waiting ≤ self.new.room + length self.new.waiting }
     {
         leave_out(&mut self.items, consumer);
     }

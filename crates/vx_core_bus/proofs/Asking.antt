@@ -1,17 +1,14 @@
 -- Requests that are opened: Request and ReplyRequest.
-use Rattle.std.proofs.Common.{◌≡◌, ℕ, ◌+◌, ◌≤◌, ◌<◌, List, [], ◌∷◌, ◌++◌, length, refl, ap, sym, ◌∙◌, subst, arith}
-use Rattle.std.specs.Prelude.{Bool, true, false, not, ◌||◌, ◌==◌, nat_le, nat_lt, cond, filter, map, Option, None, Some, Result, Ok, Err, OnOk, OnErr}
-use Rattle.std.specs.Option.{option_or}
+use Rattle.std.proofs.Common.{◌≡◌, ℕ, ◌+◌, ◌<◌, List, [], ◌∷◌, ◌++◌, length, refl, ap, sym, ◌∙◌, subst, arith}
+use Rattle.std.specs.Prelude.{true, false, not, cond, filter, map, Option, None, Some, Result, Ok, Err, OnOk, OnErr}
 use Rattle.std.specs.Result.{is_err}
-use Rattle.std.proofs.Math.Bool.{Bool-set}
-use Rattle.std.proofs.Math.Logic.{∥∥₁_elim}
-use Rattle.std.proofs.lemmas.Bool.Decides.{nat_tests}
 use Rattle.vx_data.specs.declared.ids.EntryNo.{EntryNo}
 use Rattle.vx_data.specs.declared.ids.PassNo.{PassNo}
 use Rattle.vx_data.specs.declared.ids.ContextId.{ContextId}
 use Rattle.vx_data.specs.declared.ids.ConsumerId.{ConsumerId}
 use Rattle.vx_data.specs.declared.ids.MessageId.{MessageId}
 use Rattle.vx_data.specs.Tree.{Tree}
+use Rattle.vx_message.specs.declared.Options.{Options}
 use Rattle.vx_message.specs.declared.Owner.TheVariants as owners
 use Rattle.vx_message.specs.declared.Outcome.{Outcome}
 use Rattle.vx_message.specs.declared.Outcome.TheVariants as outcomes
@@ -20,25 +17,26 @@ use Rattle.vx_timer.specs.Order as timer_order
 use Rattle.vx_request.specs.declared.requests.OpenRequest.{OpenRequest}
 use Rattle.vx_request.specs.Stores.{is_request, ended_at}
 use Rattle.vx_call.specs.declared.call.Call.TheVariants as calls
-use Rattle.vx_call.specs.declared.reply.Refusal.{Refusal}
 use Rattle.vx_call.specs.declared.reply.Reply.TheVariants as replies
 use Rattle.vx_call.specs.declared.reply.To.TheVariants as reached
 use Rattle.vx_call.specs.declared.history.Traced.{Traced}
 use Rattle.vx_call.specs.History.{plain_entry}
 use Rattle.vx_call.specs.Names.{next_message}
 use Rattle.vx_call.specs.Requests.{Open, now, unsettled, by_due}
-use Rattle.vx_call.specs.Refusals.{refused_if, unless_refused, no_context, not_your_context, no_message, not_request, not_your_message, late, bad_address, bad_delay}
-use Rattle.vx_call.specs.Rows.{request_refusal, reply_request_refusal}
+use Rattle.vx_call.specs.Refusals.{unless_refused}
+use Rattle.vx_call.specs.Settled.{replied}
+use Rattle.vx_call.specs.Rows.{reply_request_refusal}
 use Rattle.vx_call.specs.Machine.{row}
 use Rattle.vx_call.proofs.Found.{earlier_name}
+use Rattle.vx_call.proofs.Mailboxes.{mailbox_unmoved}
 use Rattle.vx_call.proofs.Opened.{open_key, unsettled_earlier}
 use Rattle.vx_call.proofs.ByDue.{comes_before, put_in_order, by_due-push_greatest}
 use Rattle.vx_context.specs.Stores.{ContextStore}
-use Rattle.vx_context.specs.Stands.{ContextsStand}
-use Rattle.vx_core_bus.specs.Stores.{BusStore, timer_of}
-use Rattle.vx_core_bus.specs.Stands.{BusStands, TimersStand, StoresStand, Follows, AreOfOneHistory, IsAt}
+use Rattle.vx_core_bus.specs.Stores.{BusStore, coded_in, timer_of}
+use Rattle.vx_core_bus.specs.Stands.{BusStands, TimersStand, StoresStand, Follows, IsAt}
 use Rattle.vx_core_bus.specs.Ending.{Settles}
-use Rattle.vx_core_bus.proofs.Settling.{is_one, one_open, found_name, found_each, Ends, contexts_settled, timers_settled, bus_settled}
+use Rattle.vx_core_bus.proofs.Frames.{numbers_left}
+use Rattle.vx_core_bus.proofs.Settling.{coded_same, is_one, one_open, found_name, found_each, Ends, contexts_settled, timers_settled, bus_settled}
 
 -- ## What a call did, once it is known how it ended
 
@@ -49,51 +47,6 @@ on_ok (Err e) ended holds = absurd cc
 pub on_err : {T E : Type 0} (result : Result T E) {P : Type 0} → is_err result ≡ true → OnErr result P → P
 on_err (Ok x) ended holds = absurd cc
 on_err (Err e) ended holds = holds
-
--- ## The timeout is short
-
-or_none : {X : Type 0} (a b : Option X) → option_or a b ≡ None → b ≡ None
-or_none None b h = h
-or_none (Some x) b h = absurd cc
-
-or_none_first : {X : Type 0} (a b : Option X) → option_or a b ≡ None → a ≡ None
-or_none_first None b h = refl
-or_none_first (Some x) b h = absurd cc
-
-not_refused : (test : Bool) (refusal : Refusal) → refused_if test refusal ≡ None → test ≡ false
-not_refused true refusal h = absurd cc
-not_refused false refusal h = refl
-
-within : (timeout : ℕ) → ((timeout == 0) || nat_lt 1000000000000 timeout) ≡ false → nat_le timeout 1000000000000 ≡ true
-within timeout h = grind (arith, nat_tests)
-
-short : (timeout : ℕ) → bad_delay timeout ≡ None → nat_le timeout 1000000000000 ≡ true
-short timeout good = within timeout (not_refused _ _ good)
-
-at_most : (n m : ℕ) → nat_le n m ≡ true → n ≤ m
-at_most n m h = grind (arith, nat_tests)
-
--- a Request that is not refused has a timeout of at most 1,000,000,000,000 ms
-pub request_short : (contexts : ContextStore) (timers : List Timer) (bus : BusStore) (pass : PassNo) (context : ContextId) (address : List ℕ) (timeout : ℕ) → AreOfOneHistory contexts timers bus →
-    ((history : List Traced) → ContextsStand contexts history → request_refusal history pass context address timeout ≡ None) → timeout ≤ 1000000000000
-request_short contexts timers bus pass context address timeout one accepted =
-    at_most timeout 1000000000000 (∥∥₁_elim one (Bool-set (nat_le timeout 1000000000000) true) (λ p.
-    let last = option_or (bad_address address) (bad_delay timeout) in
-    let second = option_or (not_your_context p.0 pass context) last in
-    short timeout (or_none (bad_address address) (bad_delay timeout) (or_none (not_your_context p.0 pass context) last (or_none (no_context p.0 context) second (accepted p.0 p.1.contexts))))))
-
--- and so has a ReplyRequest
-pub reply_request_short : (contexts : ContextStore) (timers : List Timer) (bus : BusStore) (pass : PassNo) (message : MessageId) (context : ContextId) (timeout : ℕ) → AreOfOneHistory contexts timers bus →
-    ((history : List Traced) → ContextsStand contexts history → BusStands bus history → reply_request_refusal history pass message context timeout ≡ None) → timeout ≤ 1000000000000
-reply_request_short contexts timers bus pass message context timeout one accepted =
-    at_most timeout 1000000000000 (∥∥₁_elim one (Bool-set (nat_le timeout 1000000000000) true) (λ p.
-    let last = option_or (bad_delay timeout) (late p.0 message) in
-    let fifth = option_or (not_your_context p.0 pass context) last in
-    let fourth = option_or (not_your_message p.0 pass message) fifth in
-    let third = option_or (no_context p.0 context) fourth in
-    let second = option_or (not_request p.0 message) third in
-    short timeout (or_none_first (bad_delay timeout) (late p.0 message) (or_none (not_your_context p.0 pass context) last (or_none (not_your_message p.0 pass message) fifth
-    (or_none (no_context p.0 context) fourth (or_none (not_request p.0 message) third (or_none (no_message p.0 message) second (accepted p.0 p.1.contexts p.1.bus)))))))))
 
 -- ## The timer of the request
 
@@ -126,17 +79,20 @@ timer_set timers new_timers history at moment timeout context receiver stands is
 abbrev pub asked_again : List Traced → ContextId → ℕ → Open
 asked_again history context timeout = record { id = next_message history; asker = context; due = now history + timeout; receiver = None }
 
-ends_reply_request : (history : List Traced) (pass : PassNo) (message : MessageId) (context : ContextId) (body : Tree) (timeout : ℕ) →
-    Ends history (plain_entry pass (calls.ReplyRequest message context body timeout) (replies.Asked reached.Asker)) message (outcomes.Ok body (Some (next_message history))) (asked_again history context timeout ∷ [])
-ends_reply_request history pass message context body timeout = record {
+ends_reply_request : (history : List Traced) (pass : PassNo) (message : MessageId) (context : ContextId) (body : Tree) (options : Options) (timeout : ℕ) →
+    Ends history (plain_entry pass (calls.ReplyRequest message context body options timeout) (replies.Asked reached.Asker)) message (replied history body options (Some (next_message history))) (asked_again history context timeout ∷ [])
+ends_reply_request history pass message context body options timeout = record {
   contexts = refl;
   held = refl;
   finished = λ held. refl;
-  consumers = refl;
-  gone = λ consumer. refl;
+  consumers = record { registered = refl; kept = λ consumer. refl };
+  numbers = numbers_left history _ (λ consumer. mailbox_unmoved history (plain_entry pass (calls.ReplyRequest message context body options timeout) (replies.Asked reached.Asker)) consumer refl);
   choices = refl;
   given = refl;
-  taken_back = λ given. refl;
+  codecs = record { added = refl; kept = λ codec. refl };
+  rules = record { added = refl; kept = λ rule. refl };
+  tasks = refl;
+  untaken = λ task. refl;
   items = refl;
   kept = λ item. refl;
   settled = refl;
@@ -161,20 +117,23 @@ opened_part old new_bus row is_new =
     ∙ ap (λ requests. record old { requests = requests; room = old.room }) (sym (ap (λ (s : BusStore). s.requests) is_new))
     ∙ ap (λ room. record old { requests = new_bus.requests; room = room }) (sym (ap (λ (s : BusStore). s.room) is_new))
 
-pub asks_again : (contexts new_contexts : ContextStore) (timers set_timers new_timers : List Timer) (bus settled_bus new_bus : BusStore) (history : List Traced) (at : EntryNo) (moment : ℕ) (pass : PassNo) (message : MessageId) (context : ContextId)
-    (body : Tree) (timeout : ℕ) → StoresStand contexts timers bus history → IsAt at moment history → reply_request_refusal history pass message context timeout ≡ None →
-    set_timers ≡ timer_order.put (record { id = at; due = moment + timeout; period = None }) timers →
-    Settles contexts new_contexts set_timers new_timers bus settled_bus at message (outcomes.Ok body (Some (record { 0 = at }))) →
+pub asks_again : (contexts new_contexts : ContextStore) (timers set_timers new_timers : List Timer) (old bus settled_bus new_bus : BusStore) (history : List Traced) (at : EntryNo) (moment : ℕ) (pass : PassNo) (message : MessageId) (context : ContextId)
+    (body : Tree) (options : Options) (timeout : ℕ) (made : Outcome) → BusStands old history → StoresStand contexts timers bus history → IsAt at moment history → reply_request_refusal history pass message context body options timeout ≡ None →
+    made ≡ outcomes.Ok options.headers (coded_in old.codecs options.codec body) (Some (record { 0 = at })) →
+    set_timers ≡ timer_order.put (record { id = at; due = moment + timeout; period = None }) timers → Settles contexts new_contexts set_timers new_timers bus settled_bus at message made →
     new_bus ≡ record settled_bus { requests = record settled_bus.requests { waiting = settled_bus.requests.waiting ++ record { id = record { 0 = at }; asker = owners.Context context; receiver = None } ∷ []; room = new_bus.requests.room } } →
-    Follows new_contexts new_timers new_bus history pass (calls.ReplyRequest message context body timeout) (replies.Asked reached.Asker)
-asks_again contexts new_contexts timers set_timers new_timers bus settled_bus new_bus history at moment pass message context body timeout stands is_at accepted is_set is_settled is_opened =
-    let entry = plain_entry pass (calls.ReplyRequest message context body timeout) (replies.Asked reached.Asker) in
-    let outcome : Outcome = outcomes.Ok body (Some (next_message history)) in
+    Follows new_contexts new_timers new_bus history pass (calls.ReplyRequest message context body options timeout) (replies.Asked reached.Asker)
+asks_again contexts new_contexts timers set_timers new_timers old bus settled_bus new_bus history at moment pass message context body options timeout made was stands is_at accepted is_made is_set is_settled is_opened =
+    let entry = plain_entry pass (calls.ReplyRequest message context body options timeout) (replies.Asked reached.Asker) in
+    let outcome : Outcome = replied history body options (Some (next_message history)) in
     let opens = asked_again history context timeout ∷ [] in
     let row : ℕ → OpenRequest = λ n. record { id = record { 0 = record { 0 = n } }; asker = owners.Context context; receiver = None } in
-    let P : ℕ → Type 0 = λ n. Settles contexts new_contexts set_timers new_timers bus settled_bus at message (outcomes.Ok body (Some (record { 0 = record { 0 = n } }))) in
-    let settles = subst P is_at.next is_settled in
-    let ends = ends_reply_request history pass message context body timeout in
+    let again : ℕ → Tree → Outcome = λ n coded_body. outcomes.Ok options.headers coded_body (Some (record { 0 = record { 0 = n } })) in
+    let same : made ≡ outcome =
+    is_made ∙ ap (λ n. again n (coded_in old.codecs options.codec body)) is_at.next ∙ ap (again (length history)) (coded_same old history options.codec body was) in
+    let P : Outcome → Type 0 = Settles contexts new_contexts set_timers new_timers bus settled_bus at message in
+    let settles = subst P same is_settled in
+    let ends = ends_reply_request history pass message context body options timeout in
     record {
       answered = ap (λ refusal. unless_refused refusal (replies.Asked reached.Asker)) (sym accepted);
       stores = record {

@@ -1,44 +1,43 @@
 -- The first of several causes, however they are grouped.
-use Rattle.std.proofs.Common.{◌≡◌, refl, ap, ◌∙◌}
-use Rattle.std.specs.Prelude.{Option, None, Some}
+use Rattle.std.proofs.Common.{◌≡◌, ℕ, ◌≤◌, refl, ap, ◌∙◌, arith}
+use Rattle.std.specs.Prelude.{Option, None, Some, Bool, true, false, nat_lt}
 use Rattle.std.specs.Option.{option_or}
+use Rattle.std.proofs.lemmas.Bool.Decides.{nat_tests}
+use Rattle.vx_call.specs.declared.reply.Refusal.{Refusal}
+use Rattle.vx_call.specs.declared.reply.Refusal.TheVariants as refusals
+use Rattle.vx_call.specs.Refusals.{refused_if, over}
 
 grouped : {X : Type 0} (a b c : Option X) → option_or (option_or a b) c ≡ option_or a (option_or b c)
 grouped None b c = refl
 grouped (Some x) b c = refl
 
--- a cause more, behind a chain
-more : {X : Type 0} (chain cause old new : Option X) (result : Option X) → result ≡ option_or chain cause → chain ≡ old → cause ≡ new → result ≡ option_or old new
-more chain cause old new result is_chain is_old is_new = is_chain ∙ ap (λ o. option_or o cause) is_old ∙ ap (option_or old) is_new
+-- the causes so far: with the rest behind them they are these
+pub record IsChain {X : Type 0} (so_far : Option X) (causes : Option X → Option X) : Type 0 where
+  pub behind : (rest : Option X) → option_or so_far rest ≡ causes rest
 
-five : {X : Type 0} (a b c d e : Option X) → option_or (option_or (option_or (option_or a b) c) d) e ≡ option_or a (option_or b (option_or c (option_or d e)))
-five a b c d e =
-    grouped (option_or (option_or a b) c) d e
-    ∙ grouped (option_or a b) c (option_or d e)
-    ∙ grouped a b (option_or c (option_or d e))
+pub first : {X : Type 0} {cause is : Option X} → cause ≡ is → IsChain cause (option_or is)
+first same = record { behind = λ rest. ap (λ o. option_or o rest) same }
 
--- of five
-pub first_of_five : {X : Type 0} (a b c d e : Option X) (first second third fourth fifth : Option X) (two three four all : Option X) →
-    two ≡ option_or first second → three ≡ option_or two third → four ≡ option_or three fourth → all ≡ option_or four fifth →
-    first ≡ a → second ≡ b → third ≡ c → fourth ≡ d → fifth ≡ e →
-    all ≡ option_or a (option_or b (option_or c (option_or d e)))
-first_of_five a b c d e first second third fourth fifth two three four all at_two at_three at_four at_all is_a is_b is_c is_d is_e =
-    let to_two = more first second a b two at_two is_a is_b in
-    let to_three = more two third (option_or a b) c three at_three to_two is_c in
-    let to_four = more three fourth (option_or (option_or a b) c) d four at_four to_three is_d in
-    more four fifth (option_or (option_or (option_or a b) c) d) e all at_all to_four is_e ∙ five a b c d e
+pub more : {X : Type 0} {so_far next cause is : Option X} {causes : Option X → Option X} → IsChain so_far causes → next ≡ option_or so_far cause → cause ≡ is → IsChain next (λ rest. causes (option_or is rest))
+more {so_far = so_far} {cause = cause} {is = is} {causes = causes} chain or same =
+    record { behind = λ rest. ap (λ o. option_or o rest) or ∙ grouped so_far cause rest ∙ chain.behind (option_or cause rest) ∙ ap (λ o. causes (option_or o rest)) same }
 
--- of seven
-pub first_of_seven : {X : Type 0} (a b c d e f g : Option X) (first second third fourth fifth sixth seventh : Option X) (two three four five_first six all : Option X) →
-    two ≡ option_or first second → three ≡ option_or two third → four ≡ option_or three fourth → five_first ≡ option_or four fifth → six ≡ option_or five_first sixth → all ≡ option_or six seventh →
-    first ≡ a → second ≡ b → third ≡ c → fourth ≡ d → fifth ≡ e → sixth ≡ f → seventh ≡ g →
-    all ≡ option_or a (option_or b (option_or c (option_or d (option_or e (option_or f g)))))
-first_of_seven a b c d e f g first second third fourth fifth sixth seventh two three four five_first six all at_two at_three at_four at_five at_six at_all is_a is_b is_c is_d is_e is_f is_g =
-    let to_five = first_of_five a b c d e first second third fourth fifth two three four five_first at_two at_three at_four at_five is_a is_b is_c is_d is_e in
-    let to_six = more five_first sixth (option_or a (option_or b (option_or c (option_or d e)))) f six at_six to_five is_f in
-    more six seventh (option_or (option_or a (option_or b (option_or c (option_or d e)))) f) g all at_all to_six is_g
-    ∙ grouped (option_or a (option_or b (option_or c (option_or d e)))) f g
-    ∙ grouped a (option_or b (option_or c (option_or d e))) (option_or f g)
-    ∙ ap (option_or a)
-    (grouped b (option_or c (option_or d e)) (option_or f g)
-    ∙ ap (option_or b) (grouped c (option_or d e) (option_or f g) ∙ ap (option_or c) (grouped d e (option_or f g))))
+pub last : {X : Type 0} {so_far all cause is : Option X} {causes : Option X → Option X} → IsChain so_far causes → all ≡ option_or so_far cause → cause ≡ is → all ≡ causes is
+last {cause = cause} {causes = causes} chain or same = or ∙ chain.behind cause ∙ ap causes same
+
+-- where there is no cause, neither was one of two
+pub none_of_first : {X : Type 0} (a b : Option X) → option_or a b ≡ None → a ≡ None
+none_of_first None b none = refl
+none_of_first (Some x) b none = cc
+
+pub none_of_second : {X : Type 0} (a b : Option X) → option_or a b ≡ None → b ≡ None
+none_of_second None b none = none
+none_of_second (Some x) b none = cc
+
+-- there is no cause where a test fails
+pub none_refused : (test : Bool) (refusal : Refusal) → refused_if test refusal ≡ None → test ≡ false
+none_refused true refusal none = cc
+none_refused false refusal none = refl
+
+pub none_over : (limit amount : ℕ) → over limit amount ≡ None → amount ≤ limit
+none_over limit amount none = let fails = none_refused (nat_lt limit amount) (refusals.TooLarge limit) none in grind (arith, nat_tests)

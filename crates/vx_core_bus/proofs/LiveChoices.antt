@@ -51,18 +51,19 @@ same_consumers history new call is_call none kept =
     (ap (λ k. cond (is_accepted new.entry.reply) (consumer_made history k) []) is_call ∙ ap (λ cs. cond (is_accepted new.entry.reply) cs []) none ∙ nothing_made (is_accepted new.entry.reply))
     (λ consumer. ap (λ k. is_accepted new.entry.reply && ends history k consumer.id) is_call ∙ ap (λ b. is_accepted new.entry.reply && b) (kept consumer.id) ∙ and_false (is_accepted new.entry.reply))
 
-chosen_live : (history after : List Traced) (address : List ℕ) → (HasHandlers history address → HasHandlers after address) → Each (HasHandlers after) (chosen_at history address)
-chosen_live history after address stays =
-    elim (is_empty (handlers history address)) as (λ b. (b ≡ false → HasHandlers after address) → Each (HasHandlers after) (cond b [] (address ∷ []))) [
+chosen_live : (history after : List Traced) (is_sent : Bool) (address : List ℕ) → (HasHandlers history address → HasHandlers after address) → Each (HasHandlers after) (chosen_at history is_sent address)
+chosen_live history after false address stays = tt
+chosen_live history after true address stays =
+    elim (is_empty (handlers history address)) as (λ b. (b ≡ false → HasHandlers after address) → Each (HasHandlers after) (cond (not b) (address ∷ []) [])) [
       | true ↦ λ live. tt
       | false ↦ λ live. (live refl, tt)
     ] stays
 
 made_live : (history : List Traced) (new : Traced) (call : Call) → new.entry.call ≡ call → Each (HasHandlers (history ++ new ∷ [])) (choice_made history call)
-made_live history new (calls.Send address body) is_call =
-    chosen_live history (history ++ new ∷ []) address (stays_live history new address (same_consumers history new (calls.Send address body) is_call refl (λ id. refl)))
-made_live history new (calls.Request context address body timeout) is_call =
-    chosen_live history (history ++ new ∷ []) address (stays_live history new address (same_consumers history new (calls.Request context address body timeout) is_call refl (λ id. refl)))
+made_live history new (calls.Send address body options) is_call =
+    chosen_live history (history ++ new ∷ []) _ address (stays_live history new address (same_consumers history new (calls.Send address body options) is_call refl (λ id. refl)))
+made_live history new (calls.Request context address body options timeout) is_call =
+    chosen_live history (history ++ new ∷ []) _ address (stays_live history new address (same_consumers history new (calls.Request context address body options timeout) is_call refl (λ id. refl)))
 made_live history new _ is_call = tt
 
 pub choices_live : (history : List Traced) → Each (HasHandlers history) (lasting choice_kind history)

@@ -1,8 +1,8 @@
--- The first place at which a test passes.
+-- The first element that passes a test, and its place.
 use Rattle.std.proofs.Common.{◌≡◌, ℕ, ◌<◌, zero, suc, List, [], ◌∷◌, length, get_or, refl, ap, sym, ◌∙◌, arith}
 use Rattle.std.proofs.lemmas.Bool.{ltb-false}
-use Rattle.std.specs.Prelude.{Bool, true, false, cond, Some, None, position, find, remove, slice_get, nat_lt}
-use Rattle.std.specs.List.{position_or_len}
+use Rattle.std.specs.Prelude.{Bool, true, false, cond, ◌||◌, Some, None, position, find, is_some, remove, slice_get, nat_lt}
+use Rattle.std.specs.List.{position_or_len, list_any}
 use Rattle.std.proofs.lemmas.List.Folds.{find_at}
 use Rattle.std.proofs.lemmas.List.Quantifiers.{position-Some}
 use Rattle.std.proofs.lemmas.Option.{cond_some, slice_get-get_or, slice_get_past}
@@ -34,3 +34,8 @@ pub remove_from_position : {X : Type 0} (p : X → Bool) (xs : List X) (i : ℕ)
 remove_from_position p xs i d h =
     let at = position-Some p xs i d h in
     remove_first p xs i d at.0 at.1 at.2
+
+-- one is found where any passes
+pub find-any : {X : Type 0} (p : X → Bool) (xs : List X) → is_some (find p xs) ≡ list_any p xs
+find-any p [] = refl
+find-any p (x ∷ xs) = elim (p x) as (λ b. is_some (cond b (Some x) (find p xs)) ≡ (b || list_any p xs)) [ true ↦ refl | false ↦ find-any p xs ]

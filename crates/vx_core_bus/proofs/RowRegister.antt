@@ -1,7 +1,7 @@
 -- Register.
 use Rattle.std.proofs.Common.{◌≡◌, ℕ, List, [], ◌∷◌, ◌++◌, length, refl, ap, sym, ◌∙◌}
-use Rattle.std.specs.Prelude.{true, false, not, ◌&&◌, cond, filter, find, map, None}
-use Rattle.std.specs.List.{count_by, filter_map}
+use Rattle.std.specs.Prelude.{true, false, not, ◌&&◌, cond, filter, map, None}
+use Rattle.std.specs.List.{count_by}
 use Rattle.std.specs.Option.{option_map}
 use Rattle.std.specs.Str.{bytes_eq}
 use Rattle.std.proofs.lemmas.List.{append-nil, map-append}
@@ -11,30 +11,31 @@ use Rattle.vx_data.specs.declared.ids.EntryNo.{EntryNo}
 use Rattle.vx_data.specs.declared.ids.PassNo.{PassNo}
 use Rattle.vx_data.specs.declared.ids.ContextId.{ContextId}
 use Rattle.vx_data.specs.declared.ids.ConsumerId.{ConsumerId}
-use Rattle.vx_message.specs.declared.Given.{Given}
 use Rattle.vx_timer.specs.declared.timers.Timer.{Timer}
 use Rattle.vx_ring.specs.Rings.{consumers_at, choices_at}
 use Rattle.vx_request.specs.Stores.{ended_at, given_at}
+use Rattle.vx_consumer.specs.Flows.{Counted, fresh}
+use Rattle.vx_consumer.specs.Mailboxes.{numbers_of}
 use Rattle.vx_call.specs.declared.call.Call.TheVariants as calls
 use Rattle.vx_call.specs.declared.reply.Reply.TheVariants as replies
 use Rattle.vx_call.specs.declared.history.Consumer.{Consumer}
 use Rattle.vx_call.specs.declared.history.Traced.{Traced}
 use Rattle.vx_call.specs.History.{plain_entry}
-use Rattle.vx_data.specs.Ids.{same_message}
 use Rattle.vx_call.specs.Names.{next_consumer}
 use Rattle.vx_call.specs.Consumers.{consumer_kind, consumers, handlers, is_at}
+use Rattle.vx_call.specs.Mailboxes.{mailbox}
 use Rattle.vx_call.specs.Choices.{choice_kind, is_empty}
-use Rattle.vx_call.specs.Given.{given_kind}
-use Rattle.vx_call.specs.Requests.{open_kind}
-use Rattle.vx_call.specs.Settled.{Settled, settled_kind}
+use Rattle.vx_call.specs.Settled.{Settled}
 use Rattle.vx_call.specs.Refusals.{unless_refused}
 use Rattle.vx_call.specs.Rows.{register_refusal, ids_of}
 use Rattle.vx_call.proofs.Lasting.{lasting_same, lasting_more}
+use Rattle.vx_call.proofs.Mailboxes.{mailbox_unmoved, mailbox_new}
 use Rattle.vx_context.specs.Stores.{ContextStore}
 use Rattle.vx_context.specs.Stands.{IsNext}
-use Rattle.vx_core_bus.specs.Stores.{BusStore, task_of, row_of}
+use Rattle.vx_core_bus.specs.declared.bus.Handler.{Handler}
+use Rattle.vx_core_bus.specs.Stores.{BusStore, handler_of, row_of}
 use Rattle.vx_core_bus.specs.Stands.{StoresStand, Follows}
-use Rattle.vx_core_bus.proofs.Frames.{contexts_left, timers_left, waiting_left, LeavesWaiting, LeavesRequests}
+use Rattle.vx_core_bus.proofs.Frames.{contexts_left, timers_left, requests_left, tasks_left, ended_left, given_left, codecs_left, rules_left, handlers_by, LeavesWaiting, LeavesRequests}
 
 -- more consumers leave no address without one
 still_live : (cs ds : List Consumer) → (not (is_empty cs) && is_empty (cs ++ ds)) ≡ false
@@ -60,17 +61,33 @@ handlers_push cs consumer a =
           ] back.0
     ] forth.0 forth.1
 
+abbrev name : ℕ → ConsumerId
+name n = record { 0 = record { 0 = n } }
+
+abbrev with_flow : Consumer → Counted → Handler
+with_flow consumer flow = record { consumer = consumer; flow = flow }
+
+-- the new handler stands behind the others
+handlers_more : (history : List Traced) (entry : Traced) (consumer : Consumer) → consumer.id.0.0 ≡ length history → consumers (history ++ entry ∷ []) ≡ consumers history ++ consumer ∷ [] →
+    ((other : Consumer) → mailbox (history ++ entry ∷ []) other ≡ mailbox history other) →
+    map (handler_of (history ++ entry ∷ [])) (consumers (history ++ entry ∷ [])) ≡ map (handler_of history) (consumers history) ++ with_flow consumer (fresh consumer.limit) ∷ []
+handlers_more history entry consumer is_new more unmoved =
+    let after = handler_of (history ++ entry ∷ []) in
+    ap (map after) more
+    ∙ map-append after (consumers history) (consumer ∷ [])
+    ∙ ap (λ hs. hs ++ after consumer ∷ []) (handlers_by history after (λ other is_live. ap (λ m. with_flow other (numbers_of m)) (unmoved other)))
+    ∙ ap (λ m. map (handler_of history) (consumers history) ++ with_flow consumer (numbers_of m) ∷ []) (mailbox_new history entry consumer is_new)
+
 -- a new consumer
-pub registers : (contexts : ContextStore) (timers : List Timer) (old new : BusStore) (history : List Traced) (at : EntryNo) (pass : PassNo) (context : ContextId) (address : List ℕ) →
-    StoresStand contexts timers old history → IsNext at history → register_refusal history pass context address ≡ None →
-    new ≡ record old { consumers = old.consumers ++ record { id = record { 0 = at }; context = context; address = address } ∷ []; rings = new.rings } →
+pub registers : (contexts : ContextStore) (timers : List Timer) (old new : BusStore) (history : List Traced) (at : EntryNo) (pass : PassNo) (context : ContextId) (address : List ℕ) (limit : ℕ) →
+    StoresStand contexts timers old history → IsNext at history → register_refusal history pass context address limit ≡ None →
+    new ≡ record old { consumers = old.consumers ++ record { consumer = record { id = record { 0 = at }; context = context; address = address; limit = limit }; flow = fresh limit } ∷ []; rings = new.rings } →
     ((a : List ℕ) → consumers_at a new.rings ≡ cond (bytes_eq a address) (consumers_at a old.rings ++ record { 0 = at } ∷ []) (consumers_at a old.rings)) →
     ((a : List ℕ) → choices_at a new.rings ≡ choices_at a old.rings) →
-    Follows contexts timers new history pass (calls.Register context address) (replies.Consumer (record { 0 = at }))
-registers contexts timers old new history at pass context address stands is_next free is_new in_turn chosen =
-    let name = λ (n : ℕ). (let k : ConsumerId = record { 0 = record { 0 = n } } in k) in
-    let consumer = λ (n : ℕ). (let c : Consumer = record { id = name n; context = context; address = address } in c) in
-    let entry = plain_entry pass (calls.Register context address) (replies.Consumer (name at.0)) in
+    Follows contexts timers new history pass (calls.Register context address limit) (replies.Consumer (record { 0 = at }))
+registers contexts timers old new history at pass context address limit stands is_next free is_new in_turn chosen =
+    let consumer = λ (n : ℕ). (let c : Consumer = record { id = name n; context = context; address = address; limit = limit } in c) in
+    let entry = plain_entry pass (calls.Register context address limit) (replies.Consumer (name at.0)) in
     let more = lasting_more consumer_kind history entry (λ c. refl) in
     let waits : LeavesWaiting history entry = record { none = refl; kept = λ w. refl } in
     let requests : LeavesRequests history entry = record { opened = refl; settled = λ r. refl } in
@@ -81,7 +98,9 @@ registers contexts timers old new history at pass context address stands is_next
         timers = timers_left timers history entry requests stands.timers;
         bus = record {
           consumers = ap (λ (s : BusStore). s.consumers) is_new
-              ∙ ap (λ cs. cs ++ consumer at.0 ∷ []) stands.bus.consumers ∙ ap (λ n. consumers history ++ consumer n ∷ []) is_next ∙ sym more;
+              ∙ ap (λ hs. hs ++ with_flow (consumer at.0) (fresh limit) ∷ []) stands.bus.consumers
+              ∙ ap (λ n. map (handler_of history) (consumers history) ++ with_flow (consumer n) (fresh limit) ∷ []) is_next
+              ∙ sym (handlers_more history entry (consumer (length history)) refl more (λ other. mailbox_unmoved history entry other refl));
           rings = λ a. in_turn a
               ∙ ap (λ ids. cond (bytes_eq a address) (ids ++ name at.0 ∷ []) ids) (stands.bus.rings a)
               ∙ ap (λ n. cond (bytes_eq a address) (ids_of (handlers history a) ++ name n ∷ []) (ids_of (handlers history a))) is_next
@@ -91,12 +110,12 @@ registers contexts timers old new history at pass context address stands is_next
               ap (λ cs. not (is_empty (handlers history b)) && is_empty (filter (is_at b) cs)) more
               ∙ ap (λ hs. not (is_empty (handlers history b)) && is_empty hs) (filter-append (is_at b) (consumers history) (consumer (length history) ∷ []))
               ∙ still_live (handlers history b) (filter (is_at b) (consumer (length history) ∷ [])))));
-          tasks = ap (λ (s : BusStore). s.tasks) is_new ∙ stands.bus.tasks ∙ ap (filter_map task_of) (sym (waiting_left history entry waits));
-          opened = ap (λ (s : BusStore). s.requests.waiting) is_new ∙ stands.bus.opened ∙ ap (map row_of) (sym (lasting_same open_kind history entry refl (λ r. refl)));
-          ended = λ id. ap (λ (s : BusStore). ended_at id s.requests.ended) is_new ∙ stands.bus.ended id
-              ∙ ap (λ ss. option_map (λ (s : Settled). s.at) (find (λ (s : Settled). same_message id s.request) ss)) (sym (lasting_same settled_kind history entry refl (λ s. refl)));
-          given = λ id. ap (λ (s : BusStore). given_at id s.given) is_new ∙ stands.bus.given id
-              ∙ ap (find (λ (g : Given). same_message id g.id)) (sym (lasting_same given_kind history entry refl (λ g. refl)));
+          tasks = ap (λ (s : BusStore). s.tasks) is_new ∙ stands.bus.tasks ∙ sym (tasks_left history entry (record { made = refl; kept = λ t. refl }));
+          opened = ap (λ (s : BusStore). s.requests.waiting) is_new ∙ stands.bus.opened ∙ ap (map row_of) (sym (requests_left history entry requests));
+          ended = λ id. ap (λ (s : BusStore). ended_at id s.requests.ended) is_new ∙ stands.bus.ended id ∙ ap (option_map (λ (s : Settled). s.at)) (sym (ended_left history entry id refl));
+          given = λ id. ap (λ (s : BusStore). given_at id s.given) is_new ∙ stands.bus.given id ∙ sym (given_left history entry id refl);
+          codecs = ap (λ (s : BusStore). s.codecs) is_new ∙ stands.bus.codecs ∙ sym (codecs_left history entry (record { added = refl; kept = λ c. refl }));
+          rules = ap (λ (s : BusStore). s.rules) is_new ∙ stands.bus.rules ∙ sym (rules_left history entry (record { added = refl; kept = λ r. refl }));
         };
       };
     }

@@ -1,183 +1,202 @@
 -- Request.
 use Rattle.std.proofs.Common.{◌≡◌, ℕ, ◌+◌, ◌<◌, ◌^◌, List, [], ◌∷◌, ◌++◌, length, refl, ap, sym, ◌∙◌, subst}
-use Rattle.std.specs.Prelude.{Bool, true, false, cond, filter, find, map, Option, None, Some}
-use Rattle.std.specs.List.{count_by, filter_map}
-use Rattle.std.specs.Option.{option_map, option_or, option_to_list}
-use Rattle.std.specs.Str.{bytes_eq}
-use Rattle.std.proofs.lemmas.List.{map-append}
-use Rattle.std.proofs.lemmas.List.Elements.{filter_map-append}
+use Rattle.std.proofs.Common.{inl, inr}
+use Rattle.std.specs.Prelude.{true, false, cond, find, map, Option, None, Some}
+use Rattle.std.specs.Option.{option_map, option_or}
+use Rattle.std.proofs.lemmas.List.{append-nil}
 use Rattle.std.proofs.lemmas.List.Folds.{find-append}
 use Rattle.vx_data.specs.declared.ids.EntryNo.{EntryNo}
 use Rattle.vx_data.specs.declared.ids.PassNo.{PassNo}
 use Rattle.vx_data.specs.declared.ids.ContextId.{ContextId}
 use Rattle.vx_data.specs.declared.ids.ConsumerId.{ConsumerId}
 use Rattle.vx_data.specs.declared.ids.MessageId.{MessageId}
+use Rattle.vx_data.specs.Ids.{same_message}
 use Rattle.vx_data.specs.Tree.{Tree}
-use Rattle.vx_message.specs.declared.Given.{Given}
 use Rattle.vx_message.specs.declared.Item.{Item}
-use Rattle.vx_message.specs.declared.Message.{Message}
+use Rattle.vx_message.specs.declared.Options.{Options}
 use Rattle.vx_message.specs.declared.Owner.TheVariants as owners
 use Rattle.vx_timer.specs.declared.timers.Timer.{Timer}
 use Rattle.vx_timer.specs.Order as timer_order
 use Rattle.vx_ring.specs.Rings.{consumers_at, choices_at}
-use Rattle.vx_ring.specs.Rings as rings
 use Rattle.vx_request.specs.declared.requests.OpenRequest.{OpenRequest}
 use Rattle.vx_request.specs.Stores.{ended_at, given_at}
 use Rattle.vx_call.specs.declared.call.Call.TheVariants as calls
 use Rattle.vx_call.specs.declared.reply.Reply.TheVariants as replies
 use Rattle.vx_call.specs.declared.reply.Task.{Task}
 use Rattle.vx_call.specs.declared.reply.Task.TheVariants as tasks
+use Rattle.vx_call.specs.declared.reply.To.{To}
 use Rattle.vx_call.specs.declared.reply.To.TheVariants as reached
-use Rattle.vx_call.specs.declared.history.Consumer.{Consumer}
 use Rattle.vx_call.specs.declared.history.Traced.{Traced}
-use Rattle.vx_call.specs.History.{lasting, plain_entry}
-use Rattle.vx_data.specs.Ids.{same_message}
+use Rattle.vx_call.specs.History.{plain_entry, lasting}
 use Rattle.vx_call.specs.Names.{next_entry, next_message}
-use Rattle.vx_call.specs.Contexts.{context_kind}
-use Rattle.vx_call.specs.Consumers.{consumer_kind, handlers, is_at}
-use Rattle.vx_call.specs.Choices.{choice_kind, choice, is_empty}
-use Rattle.vx_call.specs.Given.{given_kind}
-use Rattle.vx_call.specs.Requests.{open_kind, opened, unsettled, by_due}
-use Rattle.vx_call.specs.Settled.{Settled, settled_kind, settled, settled_unheard, no_handlers}
-use Rattle.vx_call.specs.Items.{Waiting, item_kind, waiting, message_to_one, delivery, delivery_to, outcome_items}
-use Rattle.vx_call.specs.Held.{held_kind}
+use Rattle.vx_call.specs.Messages.{received}
+use Rattle.vx_call.specs.Mailboxes.{readied, accepting}
+use Rattle.vx_call.specs.Requests.{opened, unsettled, by_due}
+use Rattle.vx_call.specs.Settled.{settled_kind, settled, settled_unheard, settled_made, no_handlers}
+use Rattle.vx_call.specs.Items.{item_made, delivered, delivery_tasks, outcome_items, outcome_tasks}
 use Rattle.vx_call.specs.Refusals.{unless_refused}
-use Rattle.vx_call.specs.Rows.{ids_of, reached_by, request_refusal}
-use Rattle.vx_call.proofs.Lasting.{lasting_same, lasting_more}
-use Rattle.vx_call.proofs.Opened.{unheard, settled-append}
+use Rattle.vx_call.specs.Rows.{destination, request_refusal}
+use Rattle.vx_call.proofs.Mailboxes.{mailbox_moved}
+use Rattle.vx_call.proofs.Settlings.{unheard, is_settled_as}
 use Rattle.vx_context.specs.Stores.{ContextStore, item_of}
-use Rattle.vx_context.specs.Stands.{IsNext}
-use Rattle.vx_core_bus.specs.Stores.{BusStore, task_of, row_of, timer_of}
-use Rattle.vx_core_bus.specs.Stands.{BusStands, StoresStand, Follows, GivesTurn, IsAt}
+use Rattle.vx_core_bus.specs.declared.interceptors.Passage.{Passage}
+use Rattle.vx_core_bus.specs.Passages.{PassesOn}
+use Rattle.vx_core_bus.specs.Stores.{BusStore, changed, arrived, row_of, timer_of}
+use Rattle.vx_core_bus.specs.Stands.{BusStands, StoresStand, Follows, IsAt}
 use Rattle.vx_core_bus.specs.Ending.{EndsUnheard, outcome_item}
-use Rattle.vx_core_bus.proofs.Frames.{LeavesRequests, never_ended, none_emptied, timers_left}
+use Rattle.vx_core_bus.proofs.Frames.{consumers_left}
 use Rattle.vx_core_bus.proofs.Settling.{at_of, option_map-or}
 use Rattle.vx_core_bus.proofs.Asking.{timer_set}
-use Rattle.vx_core_bus.proofs.Turns.{no_handlers_at, nobody_chosen, handlers_live, choices_more}
-use Rattle.vx_core_bus.proofs.RowSend.{more_items, more_tasks}
+use Rattle.vx_core_bus.proofs.Passing.{IsPassed, GoesOut, goes_out, Misses, Meets, how, consumers_missed, consumers_met}
+use Rattle.vx_core_bus.proofs.Sending.{IsFound, found_true, choices_passed, all_ended, missed_items, missed_tasks, met_accepting, met_items, met_tasks, met_accepts}
 
-abbrev message_of : List Traced → List ℕ → Tree → Message
-message_of history address body = message_to_one history address body true
+abbrev entry_of : PassNo → ContextId → List ℕ → Tree → Options → ℕ → To → Traced
+entry_of pass context address body options timeout to = plain_entry pass (calls.Request context address body options timeout) (replies.Asked to)
 
--- the tasks that a Request makes ready
-abbrev made_ready : List Traced → ContextId → List ℕ → Tree → Option Consumer → List Waiting
-made_ready history context address body chosen = delivery_to history (message_of history address body) chosen ++ outcome_items 0 (settled_unheard history context chosen)
+passed_request : (history : List Traced) (pass : PassNo) (context : ContextId) (address : List ℕ) (body : Tree) (options : Options) (timeout : ℕ) (to : To) →
+    IsPassed history (entry_of pass context address body options timeout to) (calls.Request context address body options timeout)
+passed_request history pass context address body options timeout to = record {
+  contexts = refl;
+  held = refl;
+  finished = λ held. refl;
+  consumers = record { registered = refl; kept = λ consumer. refl };
+  given = refl;
+  codecs = record { added = refl; kept = λ codec. refl };
+  rules = record { added = refl; kept = λ rule. refl };
+  tasks = refl;
+  untaken = λ task. refl;
+  items = refl;
+  kept = λ item. refl;
+  settled = refl;
+  opened = refl;
+  closed = λ one. refl;
+  moves = λ consumer is_live. mailbox_moved history (entry_of pass context address body options timeout to) consumer is_live;
+}
 
-answers : (history : List Traced) (pass : PassNo) (context : ContextId) (address : List ℕ) (timeout : ℕ) (chosen : Option Consumer) → request_refusal history pass context address timeout ≡ None → choice history address ≡ chosen →
-    replies.Asked (reached_by chosen) ≡ unless_refused (request_refusal history pass context address timeout) (replies.Asked (reached_by (choice history address)))
-answers history pass context address timeout chosen accepted is_chosen =
-    sym (ap (λ refusal. unless_refused refusal (replies.Asked (reached_by (choice history address)))) accepted ∙ ap (λ k. replies.Asked (reached_by k)) is_chosen)
-
--- ## No consumer is there
+-- ## Nobody accepts it
 
 -- the request has ended at once
-one_ended : (bus new_bus : BusStore) (history : List Traced) (new : Traced) (at : EntryNo) (context : ContextId) → BusStands bus history → IsNext at history →
-    lasting settled_kind (history ++ new ∷ []) ≡ lasting settled_kind history ++ unheard history context ∷ [] →
-    ((id : MessageId) → ended_at id new_bus.requests.ended ≡ option_or (ended_at id bus.requests.ended) (cond (same_message id (record { 0 = at })) (Some at) None)) →
-    (id : MessageId) → ended_at id new_bus.requests.ended ≡ option_map at_of (settled (history ++ new ∷ []) id)
-one_ended bus new_bus history new at context stands is_next is_more is_new id =
-    let test : Settled → Bool = λ s. same_message id s.request in
+one_ended : (bus : BusStore) (history : List Traced) (at : EntryNo) (context : ContextId) (id : MessageId) → BusStands bus history → at.0 ≡ length history →
+    option_or (ended_at id bus.requests.ended) (cond (same_message id (record { 0 = at })) (Some at) None)
+    ≡ option_map at_of (find (is_settled_as id) (lasting settled_kind history ++ unheard history context ∷ []))
+one_ended bus history at context id stands is_next =
     let ended : ℕ → Option EntryNo = λ n. cond (same_message id (record { 0 = record { 0 = n } })) (Some (record { 0 = n })) None in
-    is_new id
-    ∙ ap (λ known. option_or known (ended at.0)) (stands.ended id)
+    ap (λ known. option_or known (ended at.0)) (stands.ended id)
     ∙ ap (λ n. option_or (option_map at_of (settled history id)) (ended n)) is_next
     ∙ ap (option_or (option_map at_of (settled history id)))
     (elim (same_message id (next_message history)) as (λ b. cond b (Some (next_entry history)) None ≡ option_map at_of (cond b (Some (unheard history context)) None)) [ true ↦ refl | false ↦ refl ])
-    ∙ sym (option_map-or at_of (settled history id) (find test (unheard history context ∷ [])))
-    ∙ ap (option_map at_of) (sym (find-append test (lasting settled_kind history) (unheard history context ∷ [])) ∙ ap (find test) (sym is_more))
+    ∙ sym (option_map-or at_of (settled history id) (find (is_settled_as id) (unheard history context ∷ [])))
+    ∙ ap (option_map at_of) (sym (find-append (is_settled_as id) (lasting settled_kind history) (unheard history context ∷ [])))
 
-pub asks_nobody : (contexts new_contexts : ContextStore) (timers : List Timer) (bus new_bus : BusStore) (history : List Traced) (at : EntryNo) (pass : PassNo) (context : ContextId) (address : List ℕ) (body : Tree) (timeout : ℕ) →
-    StoresStand contexts timers bus history → IsNext at history → request_refusal history pass context address timeout ≡ None → rings.is_empty (consumers_at address bus.rings) ≡ true →
-    EndsUnheard contexts new_contexts bus new_bus at context → Follows new_contexts timers new_bus history pass (calls.Request context address body timeout) (replies.Asked reached.None)
-asks_nobody contexts new_contexts timers bus new_bus history at pass context address body timeout stands is_next accepted none ends =
-    let entry = plain_entry pass (calls.Request context address body timeout) (replies.Asked reached.None) in
-    let after = history ++ entry ∷ [] in
-    let empty : handlers history address ≡ [] = no_handlers_at bus history address stands.bus none in
-    let nobody : choice history address ≡ None = nobody_chosen history address empty in
-    let requests : LeavesRequests history entry = record { opened = ap (λ k. option_to_list (option_map (opened history context timeout) k)) nobody; settled = λ r. refl } in
-    let same = lasting_same consumer_kind history entry refl (λ c. refl) in
-    let more : waiting after ≡ waiting history ++ made_ready history context address body None =
-    lasting_more item_kind history entry (λ w. refl) ∙ ap (λ k. waiting history ++ made_ready history context address body k) nobody in
+pub asks_nobody : (contexts ended_contexts new_contexts : ContextStore) (timers : List Timer) (bus ended_bus new_bus : BusStore) (history : List Traced) (at : EntryNo) (pass : PassNo) (context : ContextId) (address : List ℕ) (body : Tree)
+    (options : Options) (timeout : ℕ) (passage : Passage) (to : To) → StoresStand contexts timers bus history → at.0 ≡ length history → at.0 < 2 ^ 48 →
+    request_refusal history pass context address body options timeout ≡ None → IsFound bus at address body options true passage to → ((id : ConsumerId) → to ≡ reached.Consumer id → ⊥) →
+    EndsUnheard contexts ended_contexts bus ended_bus at context → PassesOn ended_contexts new_contexts ended_bus new_bus at passage address to →
+    Follows new_contexts timers new_bus history pass (calls.Request context address body options timeout) (replies.Asked to)
+asks_nobody contexts ended_contexts new_contexts timers bus ended_bus new_bus history at pass context address body options timeout passage to stands is_next small accepted found nobody ends passes =
+    let call = calls.Request context address body options timeout in
+    let entry = entry_of pass context address body options timeout to in
+    let passed = passed_request history pass context address body options timeout to in
+    let is_true = found_true bus history at call address body options true passage to stands.bus is_next refl found in
+    let Small : ℕ → Type 0 = λ n. n < 2 ^ 48 in
+    let same_rings = ap (λ (s : BusStore). s.rings) ends.tasks in
+    let choices = choices_passed ended_contexts new_contexts bus ended_bus new_bus history entry at call address passage to stands.bus (subst Small is_next small) (consumers_left history entry passed.consumers) refl passes is_true same_rings in
     let item : ℕ → Item = λ n. outcome_item (record { 0 = n }) (record { 0 = record { 0 = n } }) context in
     let task : ℕ → Task = λ n. tasks.Outcome (record { 0 = record { 0 = n } }) no_handlers in
+    let same = passes.bus nobody in
+    let Goes : Type 0 = GoesOut contexts new_contexts timers bus new_bus history entry call in
+    let out : Goes =
+    elim (how history call address refl) as (λ _. Goes) [
+      | inl missed ↦
+          (let Q : To → Type 0 = Misses history call in
+          let misses : Misses history call to = subst Q (sym is_true.goes) missed in
+          let items : item_made history call ≡ outcome_items 0 (unheard history context ∷ []) =
+          ap (λ made. made ++ outcome_items 0 (settled_made history call)) (missed_items history call to misses) ∙ ap (λ cs. outcome_items 0 (settled_unheard history context cs)) misses.accepted in
+          record {
+            items = passes.contexts nobody
+                ∙ ends.items
+                ∙ ap (λ n. record contexts { waiting = contexts.waiting ++ item n ∷ []; room = ended_contexts.room }) is_next
+                ∙ ap (λ made. record contexts { waiting = contexts.waiting ++ map item_of made; room = ended_contexts.room }) (sym items)
+                ∙ ap (λ room. record contexts { waiting = contexts.waiting ++ map item_of (item_made history call); room = room }) (sym (ap (λ (s : ContextStore). s.room) (passes.contexts nobody)));
+            timers = stands.timers ∙ ap (λ requests. map timer_of (by_due requests)) (sym (append-nil (unsettled history)))
+                ∙ ap (λ cs. map timer_of (by_due (unsettled history ++ map (opened history context timeout) cs))) (sym misses.accepted);
+            consumers = ap (λ (s : BusStore). s.consumers) same ∙ ap (λ (s : BusStore). s.consumers) ends.tasks ∙ stands.bus.consumers ∙ consumers_missed history entry call to passed misses;
+            in_turn = λ a. passes.in_turn a ∙ ap (consumers_at a) same_rings;
+            choices = choices;
+            tasks = ap (λ (s : BusStore). s.tasks) same
+                ∙ ap (λ (s : BusStore). s.tasks) ends.tasks
+                ∙ ap (λ n. bus.tasks ++ task n ∷ []) is_next
+                ∙ ap (λ made. bus.tasks ++ made)
+                (sym (ap (λ made. made ++ outcome_tasks (settled_made history call)) (missed_tasks history call to misses) ∙ ap (λ cs. outcome_tasks (settled_unheard history context cs)) misses.accepted));
+            opened = ap (λ (s : BusStore). s.requests.waiting) same ∙ ends.left ∙ sym (append-nil bus.requests.waiting)
+                ∙ ap (λ cs. bus.requests.waiting ++ map row_of (map (opened history context timeout) cs)) (sym misses.accepted);
+            ended = λ id. ap (λ (s : BusStore). ended_at id s.requests.ended) same ∙ ends.ended id ∙ one_ended bus history at context id stands.bus is_next
+                ∙ ap (λ cs. option_map at_of (find (is_settled_as id) (lasting settled_kind history ++ settled_unheard history context cs))) (sym misses.accepted);
+            given = λ id. ap (λ (s : BusStore). given_at id s.given) same ∙ ends.given id;
+            codecs = ap (λ (s : BusStore). s.codecs) same ∙ ap (λ (s : BusStore). s.codecs) ends.tasks;
+            rules = ap (λ (s : BusStore). s.rules) same ∙ ap (λ (s : BusStore). s.rules) ends.tasks;
+          })
+      | inr meets ↦ absurd (nobody meets.consumer.id (is_true.goes ∙ meets.goes))
+    ] in
     record {
-      answered = answers history pass context address timeout None accepted nobody;
-      stores = record {
-        contexts = record {
-          made = ap (λ (s : ContextStore). s.made) ends.items ∙ stands.contexts.made ∙ sym (lasting_same context_kind history entry refl (never_ended history entry));
-          held = ap (λ (s : ContextStore). s.held) ends.items ∙ stands.contexts.held ∙ sym (lasting_same held_kind history entry refl (λ h. refl));
-          waiting = ap (λ (s : ContextStore). s.waiting) ends.items
-              ∙ ap (λ xs. xs ++ item at.0 ∷ []) stands.contexts.waiting
-              ∙ ap (λ n. map item_of (waiting history) ++ item n ∷ []) is_next
-              ∙ sym (ap (map item_of) more ∙ map-append item_of (waiting history) (made_ready history context address body None));
-        };
-        timers = timers_left timers history entry requests stands.timers;
-        bus = record {
-          consumers = ap (λ (s : BusStore). s.consumers) ends.tasks ∙ stands.bus.consumers ∙ sym same;
-          rings = λ a. ap (λ (s : BusStore). consumers_at a s.rings) ends.tasks ∙ stands.bus.rings a ∙ ap (λ cs. ids_of (filter (is_at a) cs)) (sym same);
-          choices = λ a. ap (λ (s : BusStore). choices_at a s.rings) ends.tasks ∙ stands.bus.choices a
-              ∙ ap (count_by (bytes_eq a)) (sym (lasting_same choice_kind history entry (ap (λ hs. cond (is_empty hs) [] (address ∷ [])) empty) (none_emptied history entry same)));
-          tasks = ap (λ (s : BusStore). s.tasks) ends.tasks
-              ∙ ap (λ xs. xs ++ task at.0 ∷ []) stands.bus.tasks
-              ∙ ap (λ n. filter_map task_of (waiting history) ++ task n ∷ []) is_next
-              ∙ sym (ap (filter_map task_of) more ∙ filter_map-append task_of (waiting history) (made_ready history context address body None));
-          opened = ends.left ∙ stands.bus.opened ∙ ap (map row_of) (sym (lasting_same open_kind history entry requests.opened requests.settled));
-          ended = one_ended bus new_bus history entry at context stands.bus is_next
-              (settled-append history entry ∙ ap (λ k. lasting settled_kind history ++ settled_unheard history context k) nobody) ends.ended;
-          given = λ id. ends.given id ∙ stands.bus.given id ∙ ap (find (λ (g : Given). same_message id g.id)) (sym (lasting_same given_kind history entry refl (λ g. refl)));
-        };
-      };
+      answered = ap replies.Asked is_true.goes ∙ sym (ap (λ refusal. unless_refused refusal (replies.Asked (destination history call address))) accepted);
+      stores = goes_out contexts new_contexts timers timers bus new_bus history entry call passed stands out;
     }
 
--- ## A consumer gets it
+-- ## A consumer accepts it
 
-pub asks : (contexts new_contexts : ContextStore) (timers new_timers : List Timer) (bus given_bus new_bus : BusStore) (history : List Traced) (at : EntryNo) (moment : ℕ) (pass : PassNo) (context : ContextId) (address : List ℕ) (body : Tree) (timeout : ℕ)
-    (id : ConsumerId) → StoresStand contexts timers bus history → IsAt at moment history → at.0 < 2 ^ 48 → request_refusal history pass context address timeout ≡ None → rings.is_empty (consumers_at address bus.rings) ≡ false →
-    new_timers ≡ timer_order.put (record { id = at; due = moment + timeout; period = None }) timers →
-    GivesTurn contexts new_contexts bus given_bus history (record { id = record { 0 = at }; address = address; body = body; request = true; publish = false }) id →
+pub asks : (contexts new_contexts : ContextStore) (timers new_timers : List Timer) (old bus given_bus new_bus : BusStore) (history : List Traced) (at : EntryNo) (moment due : ℕ) (pass : PassNo) (context : ContextId) (address : List ℕ) (body : Tree)
+    (options : Options) (timeout : ℕ) (passage : Passage) (to : To) (id : ConsumerId) → BusStands old history → StoresStand contexts timers bus history → IsAt at moment history → at.0 < 2 ^ 48 → due ≡ moment + timeout →
+    request_refusal history pass context address body options timeout ≡ None → IsFound old at address body options true passage to → to ≡ reached.Consumer id →
+    new_timers ≡ timer_order.put (record { id = at; due = due; period = None }) timers → PassesOn contexts new_contexts bus given_bus at passage address to →
     new_bus ≡ record given_bus { requests = record given_bus.requests { waiting = given_bus.requests.waiting ++ record { id = record { 0 = at }; asker = owners.Context context; receiver = Some id } ∷ []; room = new_bus.requests.room } } →
-    Follows new_contexts new_timers new_bus history pass (calls.Request context address body timeout) (replies.Asked (reached.Consumer id))
-asks contexts new_contexts timers new_timers bus given_bus new_bus history at moment pass context address body timeout id stands comes small accepted live is_set is_given is_opened =
-    let P : ℕ → Type 0 = λ n. GivesTurn contexts new_contexts bus given_bus history (record { id = record { 0 = record { 0 = n } }; address = address; body = body; request = true; publish = false }) id in
-    let gives = subst P comes.next is_given in
+    Follows new_contexts new_timers new_bus history pass (calls.Request context address body options timeout) (replies.Asked to)
+asks contexts new_contexts timers new_timers old bus given_bus new_bus history at moment due pass context address body options timeout passage to id was stands comes small is_due accepted found goes is_set passes is_opened =
+    let call = calls.Request context address body options timeout in
+    let entry = entry_of pass context address body options timeout to in
+    let passed = passed_request history pass context address body options timeout to in
+    let is_true = found_true old history at call address body options true passage to was comes.next refl found in
     let Small : ℕ → Type 0 = λ n. n < 2 ^ 48 in
-    let short = subst Small comes.next small in
-    let entry = plain_entry pass (calls.Request context address body timeout) (replies.Asked (reached.Consumer id)) in
-    let after = history ++ entry ∷ [] in
-    let asked = opened history context timeout gives.consumer in
-    let message = message_of history address body in
-    let chosen = ap (λ b. cond b [] (address ∷ [])) (handlers_live bus history address stands.bus live) in
+    let same_rings : new_bus.rings ≡ given_bus.rings = ap (λ (s : BusStore). s.rings) is_opened in
+    let choices = choices_passed contexts new_contexts bus bus given_bus history entry at call address passage to stands.bus (subst Small comes.next small) (consumers_left history entry passed.consumers) refl passes is_true refl in
     let row : ℕ → ConsumerId → OpenRequest = λ n k. record { id = record { 0 = record { 0 = n } }; asker = owners.Context context; receiver = Some k } in
-    let same = lasting_same consumer_kind history entry refl (λ c. refl) in
-    let more : waiting after ≡ waiting history ++ delivery history message 0 gives.consumer ∷ [] =
-    lasting_more item_kind history entry (λ w. refl) ∙ ap (λ k. waiting history ++ made_ready history context address body k) gives.chosen in
-    let more_open : unsettled after ≡ unsettled history ++ asked ∷ [] =
-    lasting_more open_kind history entry (λ r. refl) ∙ ap (λ k. unsettled history ++ option_to_list (option_map (opened history context timeout) k)) gives.chosen in
-    let rings_stay : new_bus.rings ≡ given_bus.rings = ap (λ (s : BusStore). s.rings) is_opened in
+    let Goes : Type 0 = GoesOut contexts new_contexts new_timers bus new_bus history entry call in
+    let out : Goes =
+    elim (how history call address refl) as (λ _. Goes) [
+      | inl misses ↦ absurd (misses.elsewhere id (sym is_true.goes ∙ goes))
+      | inr met ↦
+          (let Q : To → Type 0 = Meets history call address in
+          let meets : Meets history call address to = subst Q (sym is_true.goes) met in
+          let named : meets.consumer.id ≡ id = (let e : reached.Consumer meets.consumer.id ≡ reached.Consumer id = sym meets.goes ∙ goes in cc) in
+          let done = met_accepts contexts new_contexts bus given_bus history at call address passage to stands.bus passes is_true meets in
+          let one : accepting history call ≡ meets.consumer ∷ [] = met_accepting history call address to meets in
+          let items : map item_of (item_made history call) ≡ map item_of (delivered history (received history call) (readied history call)) =
+          ap (λ cs. map item_of (delivered history (received history call) (readied history call) ++ outcome_items 0 (settled_unheard history context cs))) one ∙ ap (map item_of) (append-nil _) in
+          record {
+            items = done.items ∙ ap (λ made. record contexts { waiting = contexts.waiting ++ made; room = new_contexts.room }) (met_items history call address to at meets comes.next ∙ sym items);
+            timers = timer_set timers new_timers history at moment timeout context (Some meets.consumer.id) stands.timers comes (is_set ∙ ap (λ n. timer_order.put (record { id = at; due = n; period = None }) timers) is_due)
+                ∙ ap (λ cs. map timer_of (by_due (unsettled history ++ map (opened history context timeout) cs))) (sym one);
+            consumers = ap (λ (s : BusStore). s.consumers) is_opened ∙ ap (λ (s : BusStore). s.consumers) done.bus ∙ ap (map (changed meets.consumer.id arrived)) stands.bus.consumers
+                ∙ consumers_met history entry call meets.consumer passed meets.alone;
+            in_turn = λ a. ap (consumers_at a) same_rings ∙ passes.in_turn a;
+            choices = λ a. ap (choices_at a) same_rings ∙ choices a;
+            tasks = ap (λ (s : BusStore). s.tasks) is_opened
+                ∙ ap (λ (s : BusStore). s.tasks) done.bus
+                ∙ ap (λ made. bus.tasks ++ made)
+                (sym (ap (λ cs. delivery_tasks (received history call) (accepting history call) ++ outcome_tasks (settled_unheard history context cs)) one ∙ append-nil _ ∙ met_tasks history call address to meets));
+            opened = ap (λ (s : BusStore). s.requests.waiting) is_opened
+                ∙ ap (λ rows. rows ++ row at.0 id ∷ []) (ap (λ (s : BusStore). s.requests.waiting) done.bus)
+                ∙ ap (λ n. bus.requests.waiting ++ row n id ∷ []) comes.next
+                ∙ ap (λ k. bus.requests.waiting ++ row (length history) k ∷ []) (sym named)
+                ∙ ap (λ cs. bus.requests.waiting ++ map row_of (map (opened history context timeout) cs)) (sym one);
+            ended = λ m. ap (λ (s : BusStore). ended_at m s.requests.ended) is_opened ∙ ap (λ (s : BusStore). ended_at m s.requests.ended) done.bus ∙ stands.bus.ended m ∙ all_ended history m
+                ∙ ap (λ cs. option_map at_of (find (is_settled_as m) (lasting settled_kind history ++ settled_unheard history context cs))) (sym one);
+            given = λ m. ap (λ (s : BusStore). given_at m s.given) is_opened ∙ ap (λ (s : BusStore). given_at m s.given) done.bus;
+            codecs = ap (λ (s : BusStore). s.codecs) is_opened ∙ ap (λ (s : BusStore). s.codecs) done.bus;
+            rules = ap (λ (s : BusStore). s.rules) is_opened ∙ ap (λ (s : BusStore). s.rules) done.bus;
+          })
+    ] in
     record {
-      answered = ap (λ k. replies.Asked (reached.Consumer k)) (sym gives.named) ∙ answers history pass context address timeout (Some gives.consumer) accepted gives.chosen;
-      stores = record {
-        contexts = record {
-          made = ap (λ (s : ContextStore). s.made) gives.items ∙ stands.contexts.made ∙ sym (lasting_same context_kind history entry refl (never_ended history entry));
-          held = ap (λ (s : ContextStore). s.held) gives.items ∙ stands.contexts.held ∙ sym (lasting_same held_kind history entry refl (λ h. refl));
-          waiting = more_items contexts new_contexts bus given_bus history entry message id stands.contexts gives more;
-        };
-        timers = timer_set timers new_timers history at moment timeout context (Some gives.consumer.id) stands.timers comes is_set ∙ sym (ap (λ requests. map timer_of (by_due requests)) more_open);
-        bus = record {
-          consumers = ap (λ (s : BusStore). s.consumers) is_opened ∙ ap (λ (s : BusStore). s.consumers) gives.tasks ∙ stands.bus.consumers ∙ sym same;
-          rings = λ a. ap (consumers_at a) rings_stay ∙ gives.in_turn a ∙ stands.bus.rings a ∙ ap (λ cs. ids_of (filter (is_at a) cs)) (sym same);
-          choices = λ a. ap (choices_at a) rings_stay ∙ choices_more bus given_bus history entry address stands.bus short live same chosen gives.choices a;
-          tasks = ap (λ (s : BusStore). s.tasks) is_opened ∙ more_tasks contexts new_contexts bus given_bus history entry message id stands.bus gives more;
-          opened = ap (λ (s : BusStore). s.requests.waiting) is_opened
-              ∙ ap (λ rows. rows ++ row at.0 id ∷ []) (ap (λ (s : BusStore). s.requests.waiting) gives.tasks ∙ stands.bus.opened)
-              ∙ ap (λ n. map row_of (unsettled history) ++ row n id ∷ []) comes.next
-              ∙ ap (λ k. map row_of (unsettled history) ++ row (length history) k ∷ []) (sym gives.named)
-              ∙ sym (ap (map row_of) more_open ∙ map-append row_of (unsettled history) (asked ∷ []));
-          ended = λ m. ap (λ (s : BusStore). ended_at m s.requests.ended) is_opened ∙ ap (λ (s : BusStore). ended_at m s.requests.ended) gives.tasks ∙ stands.bus.ended m
-              ∙ ap (λ all. option_map at_of (find (λ (s : Settled). same_message m s.request) all))
-              (sym (lasting_same settled_kind history entry (ap (settled_unheard history context) gives.chosen) (λ s. refl)));
-          given = λ m. ap (λ (s : BusStore). given_at m s.given) is_opened ∙ ap (λ (s : BusStore). given_at m s.given) gives.tasks ∙ stands.bus.given m
-              ∙ ap (find (λ (g : Given). same_message m g.id)) (sym (lasting_same given_kind history entry refl (λ g. refl)));
-        };
-      };
+      answered = ap replies.Asked is_true.goes ∙ sym (ap (λ refusal. unless_refused refusal (replies.Asked (destination history call address))) accepted);
+      stores = goes_out contexts new_contexts timers new_timers bus new_bus history entry call passed stands out;
     }

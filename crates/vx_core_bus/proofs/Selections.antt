@@ -5,38 +5,31 @@ use Rattle.std.specs.List.{count_by}
 use Rattle.std.specs.Str.{bytes_eq}
 use Rattle.std.proofs.lemmas.List.Sums.{length-filter}
 use Rattle.std.proofs.lemmas.Slice.Eq.{bytes_eq-Decides}
+use Rattle.vx_data.specs.declared.ids.ConsumerId.{ConsumerId}
+use Rattle.vx_message.specs.declared.Item.{Item}
+use Rattle.vx_call.specs.declared.reply.Task.{Task}
+use Rattle.vx_call.specs.declared.reply.Task.TheVariants as tasks
+use Rattle.vx_call.specs.Items.{Waiting, is_for, kind_of}
 use Rattle.vx_call.proofs.Each.{Each}
+use Rattle.vx_context.specs.Stores.{item_of, is_item_for}
+use Rattle.vx_core_bus.proofs.Images.{filter_mapped}
 
 pub every : {X : Type 0} (P : X → Type 0) → ((x : X) → P x) → (xs : List X) → Each P xs
 every P all [] = tt
 every P all (x ∷ xs) = (all x, every P all xs)
 
--- to select among images is to select by a test that agrees, and then to take the images
-pub filter_mapped : {X Y : Type 0} (p : Y → Bool) (q : X → Bool) (f : X → Y) (xs : List X) → Each (λ x. p (f x) ≡ q x) xs → filter p (map f xs) ≡ map f (filter q xs)
-filter_mapped p q f [] agree = refl
-filter_mapped p q f (x ∷ xs) agree =
-    ap (λ b. cond b (f x ∷ filter p (map f xs)) (filter p (map f xs))) agree.0
-    ∙ elim (q x) as (λ b. cond b (f x ∷ filter p (map f xs)) (filter p (map f xs)) ≡ map f (cond b (x ∷ filter q xs) (filter q xs))) [
-      | true ↦ ap (λ ys. f x ∷ ys) (filter_mapped p q f xs agree.1)
-      | false ↦ filter_mapped p q f xs agree.1
-    ]
+-- ## Items
 
--- two selections can be made in either order
-pub filter_swap : {X : Type 0} (p q : X → Bool) (xs : List X) → filter p (filter q xs) ≡ filter q (filter p xs)
-filter_swap p q [] = refl
-filter_swap p q (x ∷ xs) =
-    elim (p x) as (λ b. p x ≡ b → filter p (cond (q x) (x ∷ filter q xs) (filter q xs)) ≡ filter q (cond b (x ∷ filter p xs) (filter p xs))) [
-      | true ↦ λ h.
-          (elim (q x) as (λ b. filter p (cond b (x ∷ filter q xs) (filter q xs)) ≡ cond b (x ∷ filter q (filter p xs)) (filter q (filter p xs))) [
-            | true ↦ ap (λ b. cond b (x ∷ filter p (filter q xs)) (filter p (filter q xs))) h ∙ ap (λ ys. x ∷ ys) (filter_swap p q xs)
-            | false ↦ filter_swap p q xs
-          ])
-      | false ↦ λ h.
-          (elim (q x) as (λ b. filter p (cond b (x ∷ filter q xs) (filter q xs)) ≡ filter q (filter p xs)) [
-            | true ↦ ap (λ b. cond b (x ∷ filter p (filter q xs)) (filter p (filter q xs))) h ∙ filter_swap p q xs
-            | false ↦ filter_swap p q xs
-          ])
-    ] refl
+kept_kinds : (id : ConsumerId) (task : Task) → is_item_for id (kind_of task) ≡ is_for id task
+kept_kinds id (tasks.Deliver consumer message) = refl
+kept_kinds id (tasks.Outcome request outcome) = refl
+
+-- the items of a consumer's messages are those of its tasks
+pub items_left : (id : ConsumerId) (all : List Waiting) → filter (λ (item : Item). not (is_item_for id item.kind)) (map item_of all) ≡ map item_of (filter (λ (w : Waiting). not (is_for id w.task)) all)
+items_left id all =
+    filter_mapped (λ (item : Item). not (is_item_for id item.kind)) (λ (w : Waiting). not (is_for id w.task)) item_of all (every _ (λ w. ap not (kept_kinds id w.task)) all)
+
+-- ## Those that stay
 
 -- where what is left out would not be selected, the same are selected
 pub filter_without : {X : Type 0} (p q : X → Bool) (xs : List X) → Each (λ x. q x ≡ true → p x ≡ false) xs → filter p (filter (λ x. not (q x)) xs) ≡ filter p xs

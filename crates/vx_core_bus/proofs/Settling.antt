@@ -1,23 +1,21 @@
 -- A request that ends with an outcome: Reply, Fail and ReplyRequest.
 use Rattle.std.proofs.Common.{◌≡◌, ℕ, ℤ, ◌+◌, ◌≤◌, suc, List, [], ◌∷◌, ◌++◌, length, refl, ap, sym, ◌∙◌, subst, arith}
 use Rattle.std.specs.Prelude.{Bool, true, false, not, ◌&&◌, ◌==◌, cond, filter, find, map, is_some, Option, None, Some}
-use Rattle.std.specs.List.{count_by, filter_map}
 use Rattle.std.specs.Option.{option_map, option_or, option_to_list}
-use Rattle.std.specs.Str.{bytes_eq}
 use Rattle.std.proofs.lemmas.Bool.{eqb-true}
 use Rattle.std.proofs.lemmas.List.{append-nil, map-append}
-use Rattle.std.proofs.lemmas.List.Elements.{filter-append, filter_map-append, filter_agree}
+use Rattle.std.proofs.lemmas.List.Elements.{filter-append, filter_agree}
 use Rattle.std.proofs.lemmas.List.Folds.{find-append}
 use Rattle.vx_data.specs.declared.ids.EntryNo.{EntryNo}
 use Rattle.vx_data.specs.declared.ids.PassNo.{PassNo}
 use Rattle.vx_data.specs.declared.ids.ContextId.{ContextId}
 use Rattle.vx_data.specs.declared.ids.MessageId.{MessageId}
 use Rattle.vx_data.specs.Tree.{Tree}
+use Rattle.vx_message.specs.declared.Options.{Options}
+use Rattle.vx_message.specs.Codecs.{is_codec}
 use Rattle.vx_message.specs.declared.Held.{Held}
-use Rattle.vx_message.specs.declared.Given.{Given}
 use Rattle.vx_message.specs.declared.Item.{Item}
 use Rattle.vx_message.specs.declared.Outcome.{Outcome}
-use Rattle.vx_message.specs.declared.Outcome.TheVariants as outcomes
 use Rattle.vx_message.specs.declared.FailureKind.TheVariants as failures
 use Rattle.vx_timer.specs.declared.timers.Timer.{Timer}
 use Rattle.vx_timer.specs.Order.{is_named}
@@ -28,32 +26,35 @@ use Rattle.vx_call.specs.declared.call.Call.TheVariants as calls
 use Rattle.vx_call.specs.declared.reply.Reply.{Reply}
 use Rattle.vx_call.specs.declared.reply.Reply.TheVariants as replies
 use Rattle.vx_call.specs.declared.reply.Task.TheVariants as tasks
-use Rattle.vx_call.specs.declared.history.Consumer.{Consumer}
+use Rattle.vx_call.specs.declared.reply.Task.{Task}
 use Rattle.vx_call.specs.declared.history.Traced.{Traced}
 use Rattle.vx_call.specs.History.{made_by, ended_by, lasting, plain_entry}
 use Rattle.vx_data.specs.Ids.{same_message}
 use Rattle.vx_call.specs.Names.{next_entry}
 use Rattle.vx_call.specs.Contexts.{context_kind}
-use Rattle.vx_call.specs.Consumers.{consumer_kind, is_at}
+use Rattle.vx_call.specs.Codecs.{coded, coded_by}
 use Rattle.vx_call.specs.Choices.{choice_kind}
 use Rattle.vx_call.specs.Given.{given_kind}
 use Rattle.vx_call.specs.Requests.{Open, open_kind, unsettled, by_due}
-use Rattle.vx_call.specs.Settled.{Settled, settled_kind, settled, settlements, failed}
-use Rattle.vx_call.specs.Items.{Waiting, item_kind, waiting, outcome_items}
+use Rattle.vx_call.specs.Settled.{Settled, settled_kind, settled, settlements, failed, replied}
+use Rattle.vx_call.specs.Items.{Waiting, item_kind, waiting, task_kind, untaken, outcome_items, outcome_tasks}
 use Rattle.vx_call.specs.Held.{held_kind}
-use Rattle.vx_call.specs.Rows.{ids_of}
 use Rattle.vx_call.specs.Machine.{row}
 use Rattle.vx_call.proofs.Lasting.{lasting-append, lasting_same, lasting_more}
 use Rattle.vx_call.proofs.Each.{Each}
 use Rattle.vx_call.proofs.Apart.{Apart}
-use Rattle.vx_call.proofs.Opened.{same_open, unsettled_apart, settlement, settled-append}
+use Rattle.vx_call.proofs.Mailboxes.{mailbox_unmoved}
+use Rattle.vx_call.proofs.Opened.{same_open, unsettled_apart}
+use Rattle.vx_call.proofs.Settlings.{settlement, settled-append}
 use Rattle.vx_call.proofs.ByDue.{by_due-filter}
 use Rattle.vx_context.specs.Stores.{ContextStore, item_of}
 use Rattle.vx_context.specs.Stands.{ContextsStand, IsNext}
-use Rattle.vx_core_bus.specs.Stores.{BusStore, asker_in, task_of, row_of, timer_of}
+use Rattle.vx_core_bus.specs.Stores.{BusStore, asker_in, coded_in, row_of, timer_of}
 use Rattle.vx_core_bus.specs.Stands.{BusStands, TimersStand, StoresStand, Follows}
 use Rattle.vx_core_bus.specs.Ending as ending
-use Rattle.vx_core_bus.proofs.Frames.{never_ended, none_emptied}
+use Rattle.vx_call.proofs.Filters.{filter-map}
+use Rattle.vx_core_bus.proofs.Images.{find-map}
+use Rattle.vx_core_bus.proofs.Frames.{LeavesConsumers, LeavesNumbers, LeavesCodecs, LeavesRules, never_ended, handlers_left, numbers_left, rings_left, choices_left, given_left, codecs_left, rules_left}
 
 -- ## The open request of an id
 
@@ -125,21 +126,6 @@ fewer_left p (x ∷ xs) found =
 
 -- ## The same among what the stores keep
 
-pub find-map : {X Y : Type 0} (f : X → Y) (p : X → Bool) (q : Y → Bool) → ((x : X) → q (f x) ≡ p x) → (xs : List X) → find q (map f xs) ≡ option_map f (find p xs)
-find-map f p q same [] = refl
-find-map f p q same (x ∷ xs) =
-    ap (λ b. cond b (Some (f x)) (find q (map f xs))) (same x)
-    ∙ elim (p x) as (λ b. cond b (Some (f x)) (find q (map f xs)) ≡ option_map f (cond b (Some x) (find p xs))) [ true ↦ refl | false ↦ find-map f p q same xs ]
-
-pub filter-map : {X Y : Type 0} (f : X → Y) (p : X → Bool) (q : Y → Bool) → ((x : X) → q (f x) ≡ p x) → (xs : List X) → filter q (map f xs) ≡ map f (filter p xs)
-filter-map f p q same [] = refl
-filter-map f p q same (x ∷ xs) =
-    ap (λ b. cond b (f x ∷ filter q (map f xs)) (filter q (map f xs))) (same x)
-    ∙ elim (p x) as (λ b. cond b (f x ∷ filter q (map f xs)) (filter q (map f xs)) ≡ map f (cond b (x ∷ filter p xs) (filter p xs))) [
-      | true ↦ ap (λ ys. f x ∷ ys) (filter-map f p q same xs)
-      | false ↦ filter-map f p q same xs
-    ]
-
 -- the bus finds the open request
 row_there : (bus : BusStore) (history : List Traced) (id : MessageId) → BusStands bus history → find (is_request id) bus.requests.waiting ≡ option_map row_of (one_open history id)
 row_there bus history id stands = ap (find (is_request id)) stands.opened ∙ find-map row_of (is_one id) (is_request id) (λ request. refl) (unsettled history)
@@ -161,11 +147,14 @@ pub record Ends (history : List Traced) (new : Traced) (request : MessageId) (ou
   pub contexts : made_by context_kind history new ≡ []
   pub held : made_by held_kind history new ≡ []
   pub finished : (held : Held) → ended_by held_kind history new held ≡ false
-  pub consumers : made_by consumer_kind history new ≡ []
-  pub gone : (consumer : Consumer) → ended_by consumer_kind history new consumer ≡ false
+  pub consumers : LeavesConsumers history new
+  pub numbers : LeavesNumbers history new
   pub choices : made_by choice_kind history new ≡ []
   pub given : made_by given_kind history new ≡ []
-  pub taken_back : (given : Given) → ended_by given_kind history new given ≡ false
+  pub codecs : LeavesCodecs history new
+  pub rules : LeavesRules history new
+  pub tasks : made_by task_kind history new ≡ outcome_tasks (settlements history outcome (filter (is_one request) (unsettled history)))
+  pub untaken : (task : Task) → ended_by task_kind history new task ≡ false
   pub items : made_by item_kind history new ≡ outcome_items 0 (settlements history outcome (filter (is_one request) (unsettled history)))
   pub kept : (item : Waiting) → ended_by item_kind history new item ≡ false
   pub settled : made_by settled_kind history new ≡ settlements history outcome (filter (is_one request) (unsettled history))
@@ -223,7 +212,7 @@ timers_of timers request before opens None none is_timers others = is_timers ∙
 timers_of timers request before opens (Some found) is_found is_timers others =
     let stays : Open → Bool = λ one. not (is_one request one) in
     ap (filter (λ timer. not (is_named request.0 timer))) is_timers
-    ∙ filter-map timer_of stays (λ timer. not (is_named request.0 timer)) (λ one. refl) (by_due (before ++ opens))
+    ∙ filter-map (λ timer. not (is_named request.0 timer)) timer_of (by_due (before ++ opens))
     ∙ ap (map timer_of) (sym (by_due-filter stays (before ++ opens)) ∙ ap by_due (filter-append stays before opens ∙ ap (λ rest. filter stays before ++ rest) (others found refl)))
 
 pub timers_settled : (old new_timers : List Timer) (bus : BusStore) (history : List Traced) (new : Traced) (request : MessageId) (outcome : Outcome) (opens : List Open) →
@@ -239,9 +228,16 @@ timers_settled old new_timers bus history new request outcome opens ends stands 
 -- ## The bus
 
 tasks_of : (history : List Traced) (id : MessageId) (outcome : Outcome) (found : Option Open) → ((request : Open) → found ≡ Some request → id.0.0 ≡ request.id.0.0) →
-    ending.outcome_tasks id outcome (option_map asker_of found) ≡ filter_map task_of (outcome_items 0 (settlements history outcome (option_to_list found)))
+    ending.outcome_tasks id outcome (option_map asker_of found) ≡ outcome_tasks (settlements history outcome (option_to_list found))
 tasks_of history id outcome None same = refl
 tasks_of history id outcome (Some request) same = ap (λ m. tasks.Outcome (record { 0 = record { 0 = m } }) outcome ∷ []) (same request refl)
+
+more_untaken : (history : List Traced) (new : Traced) (request : MessageId) (outcome : Outcome) (opens : List Open) → Ends history new request outcome opens →
+    untaken (history ++ new ∷ []) ≡ untaken history ++ outcome_tasks (settlements history outcome (option_to_list (one_open history request)))
+more_untaken history new request outcome opens ends =
+    lasting_more task_kind history new ends.untaken
+    ∙ ap (λ made. untaken history ++ made) ends.tasks
+    ∙ ap (λ requests. untaken history ++ outcome_tasks (settlements history outcome requests)) (filter_one request (unsettled history) (unsettled_apart history))
 
 abbrev pub at_of : Settled → EntryNo
 at_of settled = settled.at
@@ -280,26 +276,24 @@ pub bus_settled : (old new_store : BusStore) (history : List Traced) (new : Trac
     ≡ option_or (ended_at id old.requests.ended) (cond (same_message id request && is_some (find (is_request request) old.requests.waiting)) (Some at) None)) →
     BusStands new_store (history ++ new ∷ [])
 bus_settled old new_store history new at request outcome opens ends is_next stands is_new is_left is_ended =
-    let same = lasting_same consumer_kind history new ends.consumers ends.gone in
     let stays : Open → Bool = λ one. not (is_one request one) in
-    let made = settlements history outcome (option_to_list (one_open history request)) in
     record {
-      consumers = ap (λ (s : BusStore). s.consumers) is_new ∙ stands.consumers ∙ sym same;
-      rings = λ address. ap (λ (s : BusStore). consumers_at address s.rings) is_new ∙ stands.rings address ∙ ap (λ cs. ids_of (filter (is_at address) cs)) (sym same);
-      choices = λ address. ap (λ (s : BusStore). choices_at address s.rings) is_new ∙ stands.choices address
-          ∙ ap (count_by (bytes_eq address)) (sym (lasting_same choice_kind history new ends.choices (none_emptied history new same)));
+      consumers = ap (λ (s : BusStore). s.consumers) is_new ∙ stands.consumers ∙ sym (handlers_left history new ends.consumers ends.numbers);
+      rings = λ address. ap (λ (s : BusStore). consumers_at address s.rings) is_new ∙ stands.rings address ∙ sym (rings_left history new address ends.consumers);
+      choices = λ address. ap (λ (s : BusStore). choices_at address s.rings) is_new ∙ stands.choices address ∙ sym (choices_left history new address ends.consumers ends.choices);
       tasks = ap (λ (s : BusStore). s.tasks) is_new
           ∙ ap (λ xs. xs ++ ending.outcome_tasks request outcome (ending.asker_there request old)) stands.tasks
-          ∙ ap (λ asker. filter_map task_of (waiting history) ++ ending.outcome_tasks request outcome asker) (asker_known old history request stands)
-          ∙ ap (λ xs. filter_map task_of (waiting history) ++ xs) (tasks_of history request outcome (one_open history request) (found_name history request))
-          ∙ sym (ap (filter_map task_of) (more_waiting history new request outcome opens ends) ∙ filter_map-append task_of (waiting history) (outcome_items 0 made));
+          ∙ ap (λ asker. untaken history ++ ending.outcome_tasks request outcome asker) (asker_known old history request stands)
+          ∙ ap (λ xs. untaken history ++ xs) (tasks_of history request outcome (one_open history request) (found_name history request))
+          ∙ sym (more_untaken history new request outcome opens ends);
       opened = is_left
           ∙ ap (λ rows. filter (λ row. not (is_request request row)) rows ++ map row_of opens) stands.opened
-          ∙ ap (λ rows. rows ++ map row_of opens) (filter-map row_of stays (λ row. not (is_request request row)) (λ one. refl) (unsettled history))
+          ∙ ap (λ rows. rows ++ map row_of opens) (filter-map (λ row. not (is_request request row)) row_of (unsettled history))
           ∙ sym (ap (map row_of) (left_open history new request outcome opens ends) ∙ map-append row_of (filter stays (unsettled history)) opens);
       ended = λ id. is_ended id ∙ more_ended old history new at request id outcome opens ends is_next stands;
-      given = λ id. ap (λ (s : BusStore). given_at id s.given) is_new ∙ stands.given id
-          ∙ ap (find (λ (g : Given). same_message id g.id)) (sym (lasting_same given_kind history new ends.given ends.taken_back));
+      given = λ id. ap (λ (s : BusStore). given_at id s.given) is_new ∙ stands.given id ∙ sym (given_left history new id ends.given);
+      codecs = ap (λ (s : BusStore). s.codecs) is_new ∙ stands.codecs ∙ sym (codecs_left history new ends.codecs);
+      rules = ap (λ (s : BusStore). s.rules) is_new ∙ stands.rules ∙ sym (rules_left history new ends.rules);
     }
 
 -- ## The row
@@ -321,16 +315,25 @@ follows_settled contexts new_contexts timers new_timers bus new_bus history at p
 
 -- ## Reply and Fail
 
-pub ends_reply : (history : List Traced) (pass : PassNo) (message : MessageId) (body : Tree) → Ends history (plain_entry pass (calls.Reply message body) replies.Done) message (outcomes.Ok body None) []
-ends_reply history pass message body = record {
+-- the body as the codec of the bus leaves it
+pub coded_same : (bus : BusStore) (history : List Traced) (codec : Option (List ℕ)) (body : Tree) → BusStands bus history → coded_in bus.codecs codec body ≡ coded history codec body
+coded_same bus history None body stands = refl
+coded_same bus history (Some name) body stands = ap (λ codecs. coded_by (find (is_codec name) codecs) body) stands.codecs
+
+pub ends_reply : (history : List Traced) (pass : PassNo) (message : MessageId) (body : Tree) (options : Options) →
+    Ends history (plain_entry pass (calls.Reply message body options) replies.Done) message (replied history body options None) []
+ends_reply history pass message body options = record {
   contexts = refl;
   held = refl;
   finished = λ held. refl;
-  consumers = refl;
-  gone = λ consumer. refl;
+  consumers = record { registered = refl; kept = λ consumer. refl };
+  numbers = numbers_left history _ (λ consumer. mailbox_unmoved history (plain_entry pass (calls.Reply message body options) replies.Done) consumer refl);
   choices = refl;
   given = refl;
-  taken_back = λ given. refl;
+  codecs = record { added = refl; kept = λ codec. refl };
+  rules = record { added = refl; kept = λ rule. refl };
+  tasks = refl;
+  untaken = λ task. refl;
   items = refl;
   kept = λ item. refl;
   settled = refl;
@@ -344,11 +347,14 @@ ends_fail history pass message code text = record {
   contexts = refl;
   held = refl;
   finished = λ held. refl;
-  consumers = refl;
-  gone = λ consumer. refl;
+  consumers = record { registered = refl; kept = λ consumer. refl };
+  numbers = numbers_left history _ (λ consumer. mailbox_unmoved history (plain_entry pass (calls.Fail message code text) replies.Done) consumer refl);
   choices = refl;
   given = refl;
-  taken_back = λ given. refl;
+  codecs = record { added = refl; kept = λ codec. refl };
+  rules = record { added = refl; kept = λ rule. refl };
+  tasks = refl;
+  untaken = λ task. refl;
   items = refl;
   kept = λ item. refl;
   settled = refl;

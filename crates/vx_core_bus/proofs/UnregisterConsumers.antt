@@ -1,5 +1,5 @@
 -- The handlers and choices at each address, once a consumer has ended.
-use Rattle.std.proofs.Common.{◌≡◌, ℕ, suc, List, [], ◌∷◌, ◌++◌, length, refl, ap, sym, ◌∙◌, append-nil, arith}
+use Rattle.std.proofs.Common.{◌≡◌, ℕ, List, [], ◌∷◌, ◌++◌, refl, ap, sym, ◌∙◌, append-nil, arith}
 use Rattle.std.specs.Prelude.{Bool, true, false, not, cond, ◌&&◌, ◌==◌, filter, find, is_none, Option, None, Some}
 use Rattle.std.specs.List.{count_by}
 use Rattle.std.specs.Option.{option_or}
@@ -24,9 +24,12 @@ use Rattle.vx_call.specs.Rows.{ids_of}
 use Rattle.vx_call.proofs.Lasting.{lasting-append}
 use Rattle.vx_call.proofs.Each.{Each, weaken}
 use Rattle.vx_call.proofs.Apart.{Apart}
-use Rattle.vx_call.proofs.Waiting.{same_by_name, consumers_apart}
+use Rattle.vx_call.proofs.Filters.{filter_swap}
+use Rattle.vx_call.proofs.Consumers.{same_by_name, consumers_apart}
+use Rattle.vx_core_bus.proofs.Turns.{ring_empty}
 use Rattle.vx_core_bus.proofs.LiveChoices.{no_choices}
-use Rattle.vx_core_bus.proofs.Selections.{every, filter_mapped, filter_swap, filter_without, count_kept}
+use Rattle.vx_core_bus.proofs.Images.{filter_mapped}
+use Rattle.vx_core_bus.proofs.Selections.{every, filter_without, count_kept}
 
 -- the history once a consumer has ended
 abbrev pub unregistered : List Traced → PassNo → ConsumerId → List Traced
@@ -96,13 +99,6 @@ rings_left history pass id consumer address found =
     ] refl
 
 -- ## The choices
-
-not_zero : (n : ℕ) → (suc n == 0) ≡ false
-not_zero n = grind (arith, nat_tests)
-
-ring_empty : (live : List Consumer) → ring.is_empty (ids_of live) ≡ is_empty live
-ring_empty [] = refl
-ring_empty (consumer ∷ others) = not_zero (length (ids_of others))
 
 -- where none is left they start again at 0
 from_none : (before after : Bool) (n : ℕ) → (before ≡ true → n ≡ 0) → cond after 0 n ≡ cond (not before && after) 0 n

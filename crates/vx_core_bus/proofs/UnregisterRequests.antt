@@ -1,7 +1,6 @@
 -- The requests that end with a consumer.
 use Rattle.std.proofs.Common.{◌≡◌, ℕ, ◌+◌, List, [], ◌∷◌, ◌++◌, refl, ap, sym, ◌∙◌}
 use Rattle.std.specs.Prelude.{Bool, true, false, not, cond, ◌&&◌, ◌||◌, ◌==◌, map, filter, find, is_some, Option, None, Some}
-use Rattle.std.specs.List.{filter_map}
 use Rattle.std.specs.Option.{option_map, option_or}
 use Rattle.std.proofs.lemmas.Bool.{eq-eqb}
 use Rattle.std.proofs.lemmas.List.Folds.{find-append}
@@ -19,15 +18,16 @@ use Rattle.vx_call.specs.Names.{next_entry}
 use Rattle.vx_call.specs.Given.{given}
 use Rattle.vx_call.specs.Requests.{Open, is_lost_with, settles, by_due}
 use Rattle.vx_call.specs.Settled.{Settled, no_handlers, settlements}
-use Rattle.vx_call.specs.Items.{outcome_items}
+use Rattle.vx_call.specs.Items.{outcome_items, outcome_tasks}
 use Rattle.vx_call.proofs.Each.{Each, weaken, Each-both}
 use Rattle.vx_call.proofs.Apart.{Apart, others_apart}
-use Rattle.vx_call.proofs.Opened.{settlement, same_open, same_open-swap, Each-by_due}
+use Rattle.vx_call.proofs.Opened.{same_open, same_open-swap, Each-by_due}
+use Rattle.vx_call.proofs.Settlings.{settlement}
 use Rattle.vx_call.proofs.ByDue.{by_due-filter}
 use Rattle.vx_context.specs.Stores.{item_of}
-use Rattle.vx_core_bus.specs.Stores.{task_of, row_of, timer_of}
+use Rattle.vx_core_bus.specs.Stores.{row_of, timer_of}
 use Rattle.vx_core_bus.specs.Lost.{lost_items, lost_tasks, is_timer_of}
-use Rattle.vx_core_bus.proofs.Selections.{filter_mapped}
+use Rattle.vx_core_bus.proofs.Images.{filter_mapped}
 
 -- ## Which are lost
 
@@ -49,9 +49,9 @@ pub items_lost : (history : List Traced) (place : ℕ) (requests : List Open) �
 items_lost history place [] = refl
 items_lost history place (request ∷ others) = ap (λ items. lost_items (next_entry history) place (row_of request ∷ []) ++ items) (items_lost history (place + 1) others)
 
-pub tasks_lost : (history : List Traced) (place : ℕ) (requests : List Open) → lost_tasks (map row_of requests) ≡ filter_map task_of (outcome_items place (settlements history no_handlers requests))
-tasks_lost history place [] = refl
-tasks_lost history place (request ∷ others) = ap (λ tasks. lost_tasks (row_of request ∷ []) ++ tasks) (tasks_lost history (place + 1) others)
+pub tasks_lost : (history : List Traced) (requests : List Open) → lost_tasks (map row_of requests) ≡ outcome_tasks (settlements history no_handlers requests)
+tasks_lost history [] = refl
+tasks_lost history (request ∷ others) = ap (λ tasks. lost_tasks (row_of request ∷ []) ++ tasks) (tasks_lost history others)
 
 -- ## Their timers
 

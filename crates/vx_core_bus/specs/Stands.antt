@@ -1,47 +1,48 @@
 -- The histories that the bus stands for, with the stores that it is lent.
-use Rattle.std.specs.Prelude.{◌≡◌, ℕ, ◌≤◌, ◌+◌, ◌-◌, ◌^◌, ◌&&◌, not, min, if◌then◌else◌, List, [], ◌∷◌, ◌++◌, length, map, filter, None, Some}
-use Rattle.std.specs.List.{filter_map}
-use Rattle.std.specs.Str.{bytes_eq}
+use Rattle.std.specs.Prelude.{◌≡◌, ℕ, ◌≤◌, ◌+◌, not, if◌then◌else◌, List, [], ◌∷◌, ◌++◌, length, map, filter, None, Some}
 use Rattle.std.specs.Option.{option_map, option_or}
 use Rattle.vx_data.specs.declared.ids.EntryNo.{EntryNo}
 use Rattle.vx_data.specs.declared.ids.PassNo.{PassNo}
 use Rattle.vx_data.specs.declared.ids.ContextId.{ContextId}
-use Rattle.vx_data.specs.declared.ids.ConsumerId.{ConsumerId}
 use Rattle.vx_data.specs.declared.ids.MessageId.{MessageId}
 use Rattle.vx_timer.specs.declared.timers.Timer.{Timer}
 use Rattle.vx_message.specs.declared.ItemKind.TheVariants as kinds
 use Rattle.vx_message.specs.declared.Message.{Message}
-use Rattle.vx_ring.specs.Rings.{is_empty, consumers_at, choices_at}
+use Rattle.vx_ring.specs.Rings.{consumers_at, choices_at}
 use Rattle.vx_request.specs.Stores.{is_request, ended_at, given_at}
 use Rattle.vx_call.specs.declared.call.Call.{Call}
 use Rattle.vx_call.specs.declared.reply.Reply.{Reply}
-use Rattle.vx_call.specs.declared.history.Consumer.{Consumer}
 use Rattle.vx_call.specs.declared.history.Traced.{Traced}
 use Rattle.vx_call.specs.History.{plain_entry}
 use Rattle.vx_call.specs.Consumers.{consumers, handlers}
-use Rattle.vx_call.specs.Choices.{choices, choice}
+use Rattle.vx_call.specs.Choices.{choices}
 use Rattle.vx_call.specs.Given.{given}
 use Rattle.vx_call.specs.Requests.{unsettled, by_due, now}
 use Rattle.vx_data.specs.Ids.{same_message}
 use Rattle.vx_call.specs.Settled.{Settled, settled, timeout}
 use Rattle.vx_call.specs.declared.reply.Task.TheVariants as tasks
-use Rattle.vx_call.specs.Items.{waiting, delivery}
+use Rattle.vx_call.specs.Codecs.{codecs}
+use Rattle.vx_call.specs.Rules.{rules}
+use Rattle.vx_call.specs.Items.{untaken}
 use Rattle.vx_call.specs.Rows.{ids_of}
 use Rattle.vx_call.specs.Machine.{row}
-use Rattle.vx_context.specs.Stores.{ContextStore, item_of}
+use Rattle.vx_context.specs.Stores.{ContextStore}
 use Rattle.vx_context.specs.Stands.{ContextsStand, IsNext}
-use Rattle.vx_core_bus.specs.Stores.{BusStore, task_of, row_of, timer_of}
+use Rattle.vx_core_bus.specs.declared.bus.Recipient.{Recipient}
+use Rattle.vx_core_bus.specs.Stores.{BusStore, handler_of, changed, arrived, ready_item, held_in, row_of, timer_of}
 
 -- ## The stores, with an equation for each part
 
 pub record BusStands (store : BusStore) (history : List Traced) : Type 0 where
-  pub consumers : store.consumers ≡ consumers history
+  pub consumers : store.consumers ≡ map (handler_of history) (consumers history)
   pub rings : (address : List ℕ) → consumers_at address store.rings ≡ ids_of (handlers history address)
   pub choices : (address : List ℕ) → choices_at address store.rings ≡ choices history address
-  pub tasks : store.tasks ≡ filter_map task_of (waiting history)
+  pub tasks : store.tasks ≡ untaken history
   pub opened : store.requests.waiting ≡ map row_of (unsettled history)
   pub ended : (id : MessageId) → ended_at id store.requests.ended ≡ option_map (λ (s : Settled). s.at) (settled history id)
   pub given : (id : MessageId) → given_at id store.given ≡ given history id
+  pub codecs : store.codecs ≡ codecs history
+  pub rules : store.rules ≡ rules history
 
 -- the timers are those of the requests that wait, by (due moment, id)
 abbrev pub TimersStand : List Timer → List Traced → Type 0
@@ -62,14 +63,14 @@ IsBusOfHistory bus = ∥ ((history : List Traced) × BusStands bus history) ∥�
 
 -- ## Room
 
--- there is room for the outcome of each request that waits
+-- there is room for the outcome of each request that waits, and for each message that is held to be made ready
 pub record HavePlaces (contexts : ContextStore) (bus : BusStore) : Type 0 where
-  pub items : length bus.requests.waiting ≤ contexts.room
+  pub items : length bus.requests.waiting + held_in bus.consumers ≤ contexts.room
   pub tasks : length bus.requests.waiting ≤ bus.room
 
--- there is room for so many tasks more, beside those outcomes
+-- there is room for so many tasks more, beside those
 pub record HaveRoom (contexts : ContextStore) (bus : BusStore) (more : ℕ) : Type 0 where
-  pub items : length bus.requests.waiting + more ≤ contexts.room
+  pub items : length bus.requests.waiting + held_in bus.consumers + more ≤ contexts.room
   pub tasks : length bus.requests.waiting + more ≤ bus.room
 
 -- ## What a row promises
@@ -79,15 +80,10 @@ pub record Follows (contexts : ContextStore) (timers : List Timer) (bus : BusSto
   pub answered : reply ≡ row history pass call
   pub stores : StoresStand contexts timers bus (history ++ plain_entry pass call reply ∷ [])
 
--- the message is given to the consumer whose turn it is
-pub record GivesTurn (old_contexts new_contexts : ContextStore) (old_bus new_bus : BusStore) (history : List Traced) (message : Message) (id : ConsumerId) : Type 0 where
-  pub consumer : Consumer
-  pub chosen : choice history message.address ≡ Some consumer
-  pub named : consumer.id ≡ id
-  pub items : new_contexts ≡ record old_contexts { waiting = old_contexts.waiting ++ item_of (delivery history message 0 consumer) ∷ []; room = new_contexts.room }
-  pub tasks : new_bus ≡ record old_bus { rings = new_bus.rings; tasks = old_bus.tasks ++ tasks.Deliver consumer.id message ∷ []; room = new_bus.room }
-  pub in_turn : (address : List ℕ) → consumers_at address new_bus.rings ≡ consumers_at address old_bus.rings
-  pub choices : (address : List ℕ) → choices_at address new_bus.rings ≡ (if bytes_eq address message.address && not (is_empty (consumers_at address old_bus.rings)) then min (choices_at address old_bus.rings + 1) (2 ^ 64 - 1) else choices_at address old_bus.rings)
+-- A message arrives at a consumer, which accepts it: it is made ready, or held.
+pub record Accepts (old_contexts new_contexts : ContextStore) (old_bus new_bus : BusStore) (at : EntryNo) (recipient : Recipient) (message : Message) : Type 0 where
+  pub items : new_contexts ≡ record old_contexts { waiting = old_contexts.waiting ++ ready_item at 0 recipient message.id; room = new_contexts.room }
+  pub bus : new_bus ≡ record old_bus { consumers = map (changed recipient.consumer arrived) old_bus.consumers; tasks = old_bus.tasks ++ tasks.Deliver recipient.consumer message ∷ []; room = new_bus.room }
 
 -- a request's time is up: it ends, and its outcome waits for the asker
 pub record TimesOut (old_contexts new_contexts : ContextStore) (old_bus new_bus : BusStore) (at : EntryNo) (place : ℕ) (request : MessageId) (asker : ContextId) : Type 0 where

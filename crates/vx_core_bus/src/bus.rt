@@ -7,39 +7,52 @@ ghost use Rattle.vx_message.specs.declared.Owner.TheVariants as owners;
 ghost use Rattle.vx_ring.specs.Rings.{is_empty, consumers_at, choices_at};
 ghost use Rattle.vx_request.specs.declared.requests.OpenRequest.{OpenRequest};
 ghost use Rattle.vx_request.specs.Stores.{is_request, ended_at, given_at, is_lost};
-ghost use Rattle.vx_call.specs.declared.history.Consumer.{Consumer};
+ghost use Rattle.vx_core_bus.specs.declared.bus.Handler.{Handler};
 ghost use Rattle.vx_call.specs.declared.reply.Task.{Task};
 ghost use Rattle.vx_data.specs.Ids.{same_message, same_consumer};
-ghost use Rattle.vx_call.specs.Consumers.{is_named, is_at};
+ghost use Rattle.vx_consumer.specs.Flows.{fresh};
+ghost use Rattle.vx_call.specs.Mailboxes.{is_accepted};
 ghost use Rattle.vx_call.specs.Given.{given_by_task};
 ghost use Rattle.vx_call.specs.Items.{is_for};
-ghost use Rattle.vx_core_bus.specs.Stores.{is_of_kind, has_task, without_first, recipient_of, asker_in, IsEmptyBus};
+ghost use Rattle.vx_core_bus.specs.Stores.{is_of_kind, has_task, without_first, recipient_of, asker_in, names, handler_in, is_handler_at, next_arrival, IsEmptyBus};
 
 use std::alloc::Global;
 use std::marker::Model;
 use vx_call::{Consumer, Task};
+use vx_consumer::{Arrive, Flow};
 use vx_data::{ConsumerId, ContextId, EntryNo, MessageId, NoMemory, Text};
 use vx_message::{Given, ItemKind, Outcome, Owner};
 use vx_request::{GivenOut, OpenRequest, Requests, is_lost};
 use vx_ring::Rings;
+use vx_rules::{Codecs, Rules};
 
-/// A consumer that a message is for, and its context.
+/// A consumer that a message is for, its context, and what becomes of the message there.
 #[derive(Clone, Copy, Debug, PartialEq, Eq)]
 pub struct Recipient {
     pub consumer: ConsumerId,
     pub context: ContextId,
+    pub arrive: Arrive,
 }
 
-/// The consumers, whose turn it is at each address, the messages and outcomes that wait, the requests, and the messages
-/// that were given out. Each task that waits, and each that is yet to come and for which a place was reserved, can be
-/// put, taken and given out without memory.
+/// A consumer, and what becomes of the messages that reach it.
+#[derive(Drop)]
+pub struct Handler {
+    pub consumer: Consumer,
+    pub flow: Flow,
+}
+
+/// The consumers, whose turn it is at each address, the messages and outcomes that were not taken, the requests, the
+/// messages that were given out, the codecs and the rules. Each task that was not taken, and each that is yet to come and
+/// for which a place was reserved, can be put, taken and given out without memory.
 #[derive(Drop)]
 pub struct Bus {
-    handlers: Vec<Consumer>,
+    pub(crate) handlers: Vec<Handler>,
     rings: Rings,
-    tasks: Vec<Task>,
+    pub(crate) tasks: Vec<Task>,
     requests: Requests,
     given: GivenOut,
+    pub(crate) codecs: Codecs,
+    pub(crate) rules: Rules,
     alloc: Global,
 }
 
@@ -60,6 +73,8 @@ impl Model for Bus {
       tasks = a.tasks.items;
       requests = a.requests;
       given = a.given.given;
+      codecs = a.codecs.codecs;
+      rules = a.rules.rules;
       room = min (vec_capacity a.tasks - vec_len a.tasks) (a.given.room - vec_len a.tasks);
     } };
 
@@ -77,6 +92,8 @@ impl Bus {
             tasks: Vec::new(alloc),
             requests: Requests::new(alloc),
             given: GivenOut::new(alloc),
+            codecs: Codecs::new(alloc),
+            rules: Rules::new(alloc),
             alloc,
         }
     }
@@ -88,30 +105,30 @@ impl Bus {
 
     // ## Consumers
 
-    /// The live consumer of this name.
-    pub(crate) fn consumer(&self, id: ConsumerId) -> Option<&Consumer>
-        ensures { option_copied result ≡ find (is_named id) self.now.consumers }
+    /// The live consumer of this name, with its flow.
+    pub(crate) fn handler(&self, id: ConsumerId) -> Option<&Handler>
+        ensures { option_copied result ≡ handler_in self.now.consumers id }
     {
-        consumer_of(&self.handlers, id)
+        handler_of(&self.handlers, id)
     }
 
-    /// Whether there is a consumer at the address.
-    pub(crate) fn has_handlers(&self, address: &Text) -> bool
-        ensures { result ≡ not (is_empty (consumers_at address.now self.now.rings)) }
+    /// The live consumer of this name, for a message that arrives now.
+    pub(crate) fn recipient(&self, id: ConsumerId) -> Option<Recipient>
+        ensures { result ≡ option_map recipient_of (handler_in self.now.consumers id) }
     {
-        !self.rings.all(address).is_empty()
+        handler_of(&self.handlers, id).map(recipient_of)
     }
 
-    /// The consumers at an address, in order of registration.
+    /// The consumers at an address that would accept a message now, in order of registration.
     pub(crate) fn recipients(&self, address: &Text) -> Result<Vec<Recipient>, NoMemory>
-        ensures { IfOk result (λ found. found.items ≡ map recipient_of (filter (is_at address.now) self.now.consumers)) }
+        ensures { IfOk result (λ found. found.items ≡ map recipient_of (filter (λ (h : Handler). is_accepted (next_arrival h)) (filter (is_handler_at address.now) self.now.consumers))) }
     {
         recipients_at(self.alloc, &self.handlers, address)
     }
 
     /// Adds a consumer. Without memory it comes back.
     pub(crate) fn add(&mut self, consumer: Consumer) -> Result<(), Consumer>
-        ensures added { OnOk result (self.new ≡ record self.old { consumers = self.old.consumers ++ consumer ∷ []; rings = self.new.rings }) }
+        ensures added { OnOk result (self.new ≡ record self.old { consumers = self.old.consumers ++ record { consumer = consumer; flow = fresh consumer.limit } ∷ []; rings = self.new.rings }) }
         ensures in_turn { OnOk result ((a : List ℕ) → consumers_at a self.new.rings ≡ (if bytes_eq a consumer.address then consumers_at a self.old.rings ++ consumer.id ∷ [] else consumers_at a self.old.rings)) }
         ensures choices { (a : List ℕ) → choices_at a self.new.rings ≡ choices_at a self.old.rings }
         ensures err { OnErr result (self.new ≡ record self.old { rings = self.new.rings }) }
@@ -123,15 +140,16 @@ impl Bus {
         {
             return Err(consumer);
         }
-        self.handlers.push(consumer).unwrap();
+        let flow = Flow::new(consumer.limit);
+        self.handlers.push(Handler { consumer, flow }).unwrap();
         Ok(())
     }
 
-    /// Ends a consumer, and the messages that wait for it.
+    /// Ends a consumer, and the messages that it accepted and that were not taken.
     pub(crate) fn remove(&mut self, id: ConsumerId)
-        ensures left { self.new ≡ record self.old { consumers = filter (λ (consumer : Consumer). not (is_named id consumer)) self.old.consumers; rings = self.new.rings; tasks = filter (λ (task : Task). not (is_for id task)) self.old.tasks; room = self.new.room } }
-        ensures out_of_turn { (consumer : Consumer) → find (is_named id) self.old.consumers ≡ Some consumer → (a : List ℕ) → consumers_at a self.new.rings ≡ (if bytes_eq a consumer.address then filter (λ other. not (same_consumer id other)) (consumers_at a self.old.rings) else consumers_at a self.old.rings) }
-        ensures choices { (consumer : Consumer) → find (is_named id) self.old.consumers ≡ Some consumer → (a : List ℕ) → choices_at a self.new.rings ≡ (if is_empty (consumers_at a self.new.rings) then 0 else choices_at a self.old.rings) }
+        ensures left { self.new ≡ record self.old { consumers = filter (λ (h : Handler). not (names id h)) self.old.consumers; rings = self.new.rings; tasks = filter (λ (task : Task). not (is_for id task)) self.old.tasks; room = self.new.room } }
+        ensures out_of_turn { (h : Handler) → handler_in self.old.consumers id ≡ Some h → (a : List ℕ) → consumers_at a self.new.rings ≡ (if bytes_eq a h.consumer.address then filter (λ other. not (same_consumer id other)) (consumers_at a self.old.rings) else consumers_at a self.old.rings) }
+        ensures choices { (h : Handler) → handler_in self.old.consumers id ≡ Some h → (a : List ℕ) → choices_at a self.new.rings ≡ (if is_empty (consumers_at a self.new.rings) then 0 else choices_at a self.old.rings) }
         ensures room { self.old.room ≤ self.new.room }
     {
         leave_turns(&self.handlers, &mut self.rings, id);
@@ -149,7 +167,14 @@ impl Bus {
         self.rings.choose(address)
     }
 
-    // ## Tasks that wait
+    /// The consumer whose turn it is at an address. The choice is not counted.
+    pub(crate) fn turn(&self, address: &Text) -> Option<ConsumerId>
+        ensures { result ≡ slice_get (consumers_at address.now self.now.rings) (choices_at address.now self.now.rings % length (consumers_at address.now self.now.rings)) }
+    {
+        self.rings.turn(address)
+    }
+
+    // ## Tasks
 
     /// Makes room for so many tasks beyond those that wait, each until it is taken.
     pub(crate) fn reserve(&mut self, places: usize) -> Result<(), NoMemory>
@@ -279,52 +304,67 @@ impl Bus {
     }
 }
 
-// The consumers at an address, in order of registration.
+// The consumers at an address that would accept a message now, in order of registration.
 fn recipients_at(
     alloc: Global,
-    handlers: &Vec<Consumer>,
+    handlers: &Vec<Handler>,
     address: &Text,
 ) -> Result<Vec<Recipient>, NoMemory>
-    ensures { IfOk result (λ found. found.items ≡ map recipient_of (filter (is_at address.now) handlers.now.items)) }
+    ensures { IfOk result (λ found. found.items ≡ map recipient_of (filter (λ (h : Handler). is_accepted (next_arrival h)) (filter (is_handler_at address.now) handlers.now.items))) }
 {
     let mut found = Vec::new(alloc);
-    for consumer in handlers {
-        if consumer.address.is(address) {
-            found.push(Recipient {
-                consumer: consumer.id,
-                context: consumer.context,
-            })?;
+    for handler in handlers {
+        if handler.consumer.address.is(address) && accepts(handler) {
+            found.push(recipient_of(handler))?;
         }
     }
     Ok(found)
 }
 
-// Takes a consumer out of the turns at its address.
-fn leave_turns(handlers: &Vec<Consumer>, rings: &mut Rings, id: ConsumerId)
-    ensures out_of_turn { (consumer : Consumer) → find (is_named id) handlers.now.items ≡ Some consumer → (a : List ℕ) → consumers_at a rings.new ≡ (if bytes_eq a consumer.address then filter (λ other. not (same_consumer id other)) (consumers_at a rings.old) else consumers_at a rings.old) }
-    ensures choices { (consumer : Consumer) → find (is_named id) handlers.now.items ≡ Some consumer → (a : List ℕ) → choices_at a rings.new ≡ (if is_empty (consumers_at a rings.new) then 0 else choices_at a rings.old) }
+// The consumer of a handler, for a message that arrives now.
+fn recipient_of(handler: &Handler) -> Recipient
+    ensures { result ≡ recipient_of handler.now }
 {
-    if let Some(consumer) = consumer_of(handlers, id) {
-        rings.remove(&consumer.address, id);
+    Recipient {
+        consumer: handler.consumer.id,
+        context: handler.consumer.context,
+        arrive: handler.flow.next_arrival(),
     }
 }
 
-// The consumer of this name.
-fn consumer_of(handlers: &Vec<Consumer>, id: ConsumerId) -> Option<&Consumer>
-    ensures { option_copied result ≡ find (is_named id) handlers.now.items }
+// Whether a message that arrives now is made ready or held.
+fn accepts(handler: &Handler) -> bool
+    ensures { result ≡ is_accepted (next_arrival handler.now) }
 {
-    handlers.iter().find(|consumer| id == consumer.id)
+    handler.flow.next_arrival() != Arrive::Lost
+}
+
+// Takes a consumer out of the turns at its address.
+fn leave_turns(handlers: &Vec<Handler>, rings: &mut Rings, id: ConsumerId)
+    ensures out_of_turn { (h : Handler) → handler_in handlers.now.items id ≡ Some h → (a : List ℕ) → consumers_at a rings.new ≡ (if bytes_eq a h.consumer.address then filter (λ other. not (same_consumer id other)) (consumers_at a rings.old) else consumers_at a rings.old) }
+    ensures choices { (h : Handler) → handler_in handlers.now.items id ≡ Some h → (a : List ℕ) → choices_at a rings.new ≡ (if is_empty (consumers_at a rings.new) then 0 else choices_at a rings.old) }
+{
+    if let Some(handler) = handler_of(handlers, id) {
+        rings.remove(&handler.consumer.address, id);
+    }
+}
+
+// The handler of this name.
+fn handler_of(handlers: &Vec<Handler>, id: ConsumerId) -> Option<&Handler>
+    ensures { option_copied result ≡ handler_in handlers.now.items id }
+{
+    handlers.iter().find(|handler| id == handler.consumer.id)
 }
 
 // Leaves out a consumer.
-fn leave_out_consumer(handlers: &mut Vec<Consumer>, id: ConsumerId)
-    ensures { handlers.new.items ≡ filter (λ (consumer : Consumer). not (is_named id consumer)) handlers.old.items }
+fn leave_out_consumer(handlers: &mut Vec<Handler>, id: ConsumerId)
+    ensures { handlers.new.items ≡ filter (λ (h : Handler). not (names id h)) handlers.old.items }
 {
-    handlers.retain(|consumer| id != consumer.id);
+    handlers.retain(|handler| id != handler.consumer.id);
 }
 
-// Whether it is a message for the consumer.
-fn is_for(id: ConsumerId, task: &Task) -> bool
+/// Whether it is a message for the consumer.
+pub(crate) fn is_for(id: ConsumerId, task: &Task) -> bool
     ensures { result ≡ is_for id task.now }
 {
     match task {
@@ -401,6 +441,7 @@ fn given_by(task: &Task, context: ContextId) -> Option<Given>
         Task::Outcome {
             request: _,
             outcome: Outcome::Ok {
+                headers: _,
                 body: _,
                 again: Some(id),
             },

@@ -6,6 +6,8 @@ ghost use Rattle.vx_core_bus.specs.Stores.{is_bus_call};
 
 use crate::bus::Bus;
 use crate::rows::fail::fail;
+use crate::rows::flow::{fetch, pause, resume};
+use crate::rows::interceptors::{add_codec, add_rule, remove_codec, remove_rule};
 use crate::rows::publish::publish;
 use crate::rows::register::register;
 use crate::rows::reply::reply;
@@ -40,25 +42,39 @@ pub fn step(
     ensures places { HavePlaces contexts.new bus.new }
 {
     match call {
-        Call::Register { context, address } => {
-            register(contexts, timers, bus, at, pass, context, address)
-        }
-        Call::Unregister(consumer) => { Ok(unregister(contexts, timers, bus, at, pass, consumer)) }
-        Call::Send { address, body } => send(contexts, timers, bus, at, pass, address, body),
-        Call::Publish { address, body } => {
-            publish(contexts, timers, bus, at, pass, address, body)
-        }
+        Call::Register {
+            context,
+            address,
+            limit,
+        } => register(contexts, timers, bus, at, pass, context, address, limit),
+        Call::Unregister(consumer) => Ok(unregister(contexts, timers, bus, at, pass, consumer)),
+        Call::Pause(consumer) => Ok(pause(contexts, timers, bus, at, pass, consumer)),
+        Call::Resume(consumer) => Ok(resume(contexts, timers, bus, at, pass, consumer)),
+        Call::Fetch(consumer, count) => Ok(fetch(contexts, timers, bus, at, pass, consumer, count)),
+        Call::Send {
+            address,
+            body,
+            options,
+        } => send(contexts, timers, bus, at, pass, address, body, options),
+        Call::Publish {
+            address,
+            body,
+            options,
+        } => publish(contexts, timers, bus, at, pass, address, body, options),
         Call::Request {
             context,
             address,
             body,
+            options,
             timeout,
         } => request(
-            contexts, timers, bus, at, now, pass, context, address, body, timeout,
+            contexts, timers, bus, at, now, pass, context, address, body, options, timeout,
         ),
-        Call::Reply { message, body } => {
-            Ok(reply(contexts, timers, bus, at, pass, message, body))
-        }
+        Call::Reply {
+            message,
+            body,
+            options,
+        } => reply(contexts, timers, bus, at, pass, message, body, options),
         Call::Fail {
             message,
             code,
@@ -68,10 +84,19 @@ pub fn step(
             message,
             context,
             body,
+            options,
             timeout,
         } => reply_request(
-            contexts, timers, bus, at, now, pass, message, context, body, timeout,
+            contexts, timers, bus, at, now, pass, message, context, body, options, timeout,
         ),
+        Call::AddCodec { name, form } => add_codec(contexts, timers, bus, at, pass, name, form),
+        Call::RemoveCodec(name) => Ok(remove_codec(contexts, timers, bus, at, pass, name)),
+        Call::AddRule {
+            side,
+            condition,
+            verdict,
+        } => add_rule(contexts, timers, bus, at, pass, side, condition, verdict),
+        Call::RemoveRule(rule) => Ok(remove_rule(contexts, timers, bus, at, pass, rule)),
         _ => unreachable!(),
     }
 }

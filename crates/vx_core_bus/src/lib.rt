@@ -3,6 +3,8 @@
 
 mod bus;
 mod dispatch;
+mod flows;
+mod interceptors;
 mod refusals;
 mod rows;
 mod timing;

@@ -1,6 +1,9 @@
-//! What each call does where the history is not spent: a file a call.
+//! What each call does where the history is not spent.
 
+pub mod deliver;
 pub mod fail;
+pub mod flow;
+pub mod interceptors;
 pub mod outcomes;
 pub mod publish;
 pub mod register;

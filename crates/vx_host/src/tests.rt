@@ -9,7 +9,7 @@ use std::alloc::Global;
 use std::sync::Wait;
 use std::test::Fail;
 use std::thread::{Threads, join};
-use vx_call::{Call, End, Lane, Refusal, Reply, Task, To};
+use vx_call::{Call, End, Lane, Options, Refusal, Reply, Task, To};
 use vx_data::{Body, BodyView, ContextId, EntryNo, PassNo, Text};
 
 const CONTEXT: ContextId = ContextId {
@@ -25,25 +25,27 @@ fn register() -> Call
     Call::Register {
         context: CONTEXT,
         address: Text::constant("a"),
+        limit: 1000,
     }
 }
 
-fn send(number: i64) -> Call
+fn send(alloc: Global, number: i64) -> Call
     ensures { is_plain result ≡ true }
 {
     Call::Send {
         address: Text::constant("a"),
         body: Body::int(number),
+        options: Options::none(alloc),
     }
 }
 
 // Sends the numbers from `first` on, and gives the pass back where each was sent to the consumer.
-fn send_many<R: Wait>(rt: &R, host: &Host, mut pass: Pass, first: i64) -> Option<Pass>
+fn send_many<R: Wait + AllocGlobal>(rt: &R, host: &Host, mut pass: Pass, first: i64) -> Option<Pass>
     requires { place_of pass ≡ place host.now.shared }
     ensures { IfSome result (λ after. place_of after ≡ place_of pass) }
 {
     for number in 0..SENDS {
-        let applied = host.apply(rt, pass, send(first.saturating_add(number)));
+        let applied = host.apply(rt, pass, send(rt.alloc(), first.saturating_add(number)));
         let Ok(Reply::Sent(To::Consumer(_))) = applied.result else {
             return None;
         };
@@ -53,7 +55,12 @@ fn send_many<R: Wait>(rt: &R, host: &Host, mut pass: Pass, first: i64) -> Option
 }
 
 // Sends in two threads, and joins their passes.
-fn both<R: Threads + Wait + Sync>(rt: &R, host: &Host, one: Pass, two: Pass) -> Option<Pass>
+fn both<R: Threads + Wait + Sync + AllocGlobal>(
+    rt: &R,
+    host: &Host,
+    one: Pass,
+    two: Pass,
+) -> Option<Pass>
     requires one { place_of one ≡ place host.now.shared }
     requires two { place_of two ≡ place host.now.shared }
     ensures place { IfSome result (λ after. place_of after ≡ place_of one) }
@@ -161,74 +168,166 @@ fn opened<R: Wait>(rt: &R, alloc: Global) -> Option<(Host, Pass)>
     }
 }
 
+// What two threads of 100 sends come to: the length of the history, the totals before anything is taken, how many of each
+// thread's messages are taken in its order, and the totals then.
+fn sent_by_both<R: Threads + Wait + Sync + AllocGlobal>(
+    rt: &R,
+    host: &Host,
+    one: Pass,
+    two: Pass,
+) -> Option<(u64, Totals, (i64, i64), Totals)>
+    requires one { place_of one ≡ place host.now.shared }
+    requires two { place_of two ≡ place host.now.shared }
+{
+    let mut pass = both(rt, host, one, two)?;
+    let length = host.front(&mut pass);
+    let (pass, sent) = host.totals(rt, pass);
+    let (pass, in_order) = take_all(rt, host, pass);
+    let (_, taken) = host.totals(rt, pass);
+    Some((length, sent, in_order, taken))
+}
+
+// A host with a context that has a consumer, and two passes, of which the second has number 1.
+fn opened_for_two<R: Wait>(rt: &R, alloc: Global) -> Option<(Host, Pass, Pass)>
+    ensures one { IfSome result (λ opened. place_of opened.1 ≡ place opened.0.shared) }
+    ensures two { IfSome result (λ opened. place_of opened.2 ≡ place opened.0.shared) }
+{
+    let (host, one) = opened(rt, alloc)?;
+    match host.split(rt, one) {
+        (one, Ok(two)) if two.number() == PassNo(1) => Some((host, one, two)),
+        _ => None,
+    }
+}
+
 #[test]
-fn two_threads_of_100_sends(rt: HostRuntime) -> Result<(), Fail> {
-    let Some((host, one)) = opened(&rt, rt.alloc()) else {
-        return Err("not opened".into());
+fn totals_are_one_line(rt: HostRuntime) -> Result<(), Fail> {
+    let totals = Totals {
+        deployments: 1,
+        messages: 20,
+        deliveries: 300,
+        frames: 4000,
     };
-    let (one, Ok(two)) = host.split(&rt, one) else {
-        return Err("spent".into());
-    };
-    let PassNo(number) = two.number();
-    assert_eq!(rt; number, 1);
-    let Some(mut pass) = both(&rt, &host, one, two) else {
-        return Err("not sent".into());
-    };
-    assert_eq!(rt; host.front(&mut pass), 203);
-    let (pass, sent) = host.totals(&rt, pass);
-    assert_eq!(rt; sent, totals(200, 0));
-    let (pass, in_order) = take_all(&rt, &host, pass);
-    assert_eq!(rt; in_order, (SENDS, SENDS));
-    let (_pass, taken) = host.totals(&rt, pass);
-    assert_eq!(rt; taken, totals(200, 200));
+    let mut line = Vec::new(rt.alloc());
+    line.extend_from_slice(b"> ")?;
+    totals.write(&mut line)?;
+    let expected = b"> deployments 1 messages 20 deliveries 300 frames 4000\n";
+    assert_eq!(rt; line.as_slice(), expected.as_slice());
     Ok(())
 }
 
+#[test]
+fn two_threads_of_100_sends(rt: HostRuntime) {
+    let came_to = match opened_for_two(&rt, rt.alloc()) {
+        Some((host, one, two)) => sent_by_both(&rt, &host, one, two),
+        None => None,
+    };
+    let expected = (203, totals(200, 0), (SENDS, SENDS), totals(200, 200));
+    assert_eq!(rt; came_to, Some(expected));
+}
+
 // Tries a call of a pass while another has its turn.
-fn meet<R: Wait>(rt: &R, host: &Host, one: Pass, two: Pass) -> (Pass, Result<Applied, BusyCall>)
+fn meet<R: Wait + AllocGlobal>(
+    rt: &R,
+    host: &Host,
+    one: Pass,
+    two: Pass,
+) -> (Pass, Result<Applied, BusyCall>)
     requires one { place_of one ≡ place host.now.shared }
     requires two { place_of two ≡ place host.now.shared }
     ensures one { place_of result.0 ≡ place_of one }
     ensures two { IfErr result.1 (λ busy. (place_of busy.pass ≡ place_of two) × (is_plain busy.call ≡ true)) }
 {
     let turn = host.shared.enter(rt, one);
-    let tried = host.try_apply(two, send(7));
+    let tried = host.try_apply(two, send(rt.alloc(), 7));
     (put_back(turn), tried)
 }
 
+// Makes the call of a pass that was busy, while no other has its turn: whether the message reached a consumer.
+fn try_again(host: &Host, busy: BusyCall) -> bool
+    requires place { place_of busy.pass ≡ place host.now.shared }
+    requires plain { is_plain busy.call ≡ true }
+{
+    match host.try_apply(busy.pass, busy.call) {
+        Ok(applied) => matches!(applied.result, Ok(Reply::Sent(To::Consumer(_)))),
+        Err(_) => false,
+    }
+}
+
+// The ticket that is served while another pass has the turn, and the next one; and whether the call is made once it is over.
+fn busy_then_made<R: Wait + AllocGlobal>(
+    rt: &R,
+    host: &Host,
+    one: Pass,
+    two: Pass,
+) -> (Pass, Option<(u64, u64, bool)>)
+    requires one { place_of one ≡ place host.now.shared }
+    requires two { place_of two ≡ place host.now.shared }
+    ensures { place_of result.0 ≡ place_of one }
+{
+    match meet(rt, host, one, two) {
+        (one, Err(busy)) => {
+            let numbers = (busy.serving, busy.ticket);
+            (one, Some((numbers.0, numbers.1, try_again(host, busy))))
+        }
+        (one, Ok(_)) => (one, None),
+    }
+}
+
 #[test]
-fn busy_while_another_pass_has_the_turn(rt: HostRuntime) -> Result<(), Fail> {
-    let Some((host, one)) = opened(&rt, rt.alloc()) else {
-        return Err("not opened".into());
+fn busy_while_another_pass_has_the_turn(rt: HostRuntime) {
+    let found = match opened_for_two(&rt, rt.alloc()) {
+        Some((host, one, two)) => busy_then_made(&rt, &host, one, two).1,
+        None => None,
     };
-    let (one, Ok(two)) = host.split(&rt, one) else {
-        return Err("spent".into());
+    assert_eq!(rt; found, Some((3, 4, true)));
+}
+
+// What looks find: a message that waits, with its number once it is taken, and nothing then; no request is due.
+fn looks<R: Wait + AllocGlobal>(
+    rt: &R,
+    host: &Host,
+    one: Pass,
+) -> (Look, Option<i64>, Look, Option<u64>)
+    requires { place_of one ≡ place host.now.shared }
+{
+    let lane = Lane::Own(CONTEXT);
+    let one = host.apply(rt, one, send(rt.alloc(), 7)).pass;
+    let (one, before) = host.look(rt, one, lane);
+    let (one, number) = take_number(rt, host, one);
+    let (one, after) = host.look(rt, one, lane);
+    let (_, due) = host.look_due(rt, one);
+    (before, number, after, due)
+}
+
+#[test]
+fn looks_find_what_waits(rt: HostRuntime) {
+    let found = match opened(&rt, rt.alloc()) {
+        Some((host, one)) => Some(looks(&rt, &host, one)),
+        None => None,
     };
-    let (mut one, Err(busy)) = meet(&rt, &host, one, two) else {
-        return Err("it was made".into());
-    };
-    assert_eq!(rt; (busy.serving, busy.ticket), (3, 4));
-    let Ok(Applied { pass: _two, result }) = host.try_apply(busy.pass, busy.call) else {
-        return Err("it is busy".into());
-    };
-    let Ok(Reply::Sent(To::Consumer(_))) = result else {
-        return Err("not sent".into());
-    };
-    host.await_change(&rt, &mut one);
+    assert_eq!(rt; found, Some((Look::Ready, Some(7), Look::Idle, None)));
+}
+
+// Waits for another pass's call, and takes from a lane that is not there: whether it is refused.
+fn awaits_then_misses<R: Wait + AllocGlobal>(rt: &R, host: &Host, mut one: Pass, two: Pass) -> bool
+    requires one { place_of one ≡ place host.now.shared }
+    requires two { place_of two ≡ place host.now.shared }
+{
+    let _ = host.apply(rt, two, send(rt.alloc(), 7));
+    host.await_change(rt, &mut one);
     let lane = Lane::Own(ContextId {
         entry: EntryNo(1),
         instance: 0,
     });
-    let (one, Reply::Refused(Refusal::NoLane)) = host.take(&rt, one, lane) else {
-        return Err("no refusal".into());
+    let (_, reply) = host.take(rt, one, lane);
+    matches!(reply, Reply::Refused(Refusal::NoLane))
+}
+
+#[test]
+fn a_change_is_awaited(rt: HostRuntime) {
+    let refused = match opened_for_two(&rt, rt.alloc()) {
+        Some((host, one, two)) => Some(awaits_then_misses(&rt, &host, one, two)),
+        None => None,
     };
-    let (one, due) = host.look_due(&rt, one);
-    assert_eq!(rt; due, None);
-    let (one, found) = host.look(&rt, one, Lane::Own(CONTEXT));
-    assert_eq!(rt; found, Look::Ready);
-    let (one, number) = take_number(&rt, &host, one);
-    assert_eq!(rt; number, Some(7));
-    let (_one, found) = host.look(&rt, one, Lane::Own(CONTEXT));
-    assert_eq!(rt; found, Look::Idle);
-    Ok(())
+    assert_eq!(rt; refused, Some(true));
 }

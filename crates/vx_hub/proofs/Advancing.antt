@@ -1,11 +1,10 @@
 -- The requests whose time is up end one by one.
 use Rattle.std.proofs.Common.{◌≡◌, ℕ, ◌+◌, ◌<◌, ◌≤◌, suc, List, [], ◌∷◌, ◌++◌, length, take, drop, refl, ap, sym, ◌∙◌, subst, append_assoc, add-one, arith}
 use Rattle.std.specs.Prelude.{true, not, cond, map, filter, find, All, Option, None, Some}
-use Rattle.std.specs.List.{filter_map}
 use Rattle.std.specs.Option.{option_map, option_or}
 use Rattle.std.proofs.lemmas.List.{append-nil, map-append, length-map, length-take-le}
 use Rattle.std.proofs.lemmas.List.Folds.{find-append}
-use Rattle.std.proofs.lemmas.List.Elements.{filter_map-append, filter_agree, All-nil, All-push, All-same}
+use Rattle.std.proofs.lemmas.List.Elements.{filter_agree, All-nil, All-push, All-same}
 use Rattle.vx_data.specs.declared.ids.EntryNo.{EntryNo}
 use Rattle.vx_data.specs.declared.ids.ContextId.{ContextId}
 use Rattle.vx_data.specs.declared.ids.MessageId.{MessageId}
@@ -20,15 +19,16 @@ use Rattle.vx_call.specs.declared.history.Traced.{Traced}
 use Rattle.vx_data.specs.Ids.{same_message}
 use Rattle.vx_call.specs.Names.{next_entry}
 use Rattle.vx_call.specs.Requests.{Open, unsettled, by_due}
-use Rattle.vx_call.specs.Settled.{timeout}
-use Rattle.vx_call.specs.Items.{outcome_item, outcome_items}
+use Rattle.vx_call.specs.Settled.{Settled, timeout}
+use Rattle.vx_call.specs.Items.{outcome_item, outcome_items, outcome_tasks}
 use Rattle.vx_call.proofs.Lasting.{filter_all}
-use Rattle.vx_call.proofs.Opened.{same_open, same_open-swap, unsettled_apart, settlement, Each-by_due, Apart-by_due}
+use Rattle.vx_call.proofs.Opened.{same_open, same_open-swap, unsettled_apart, Each-by_due, Apart-by_due}
+use Rattle.vx_call.proofs.Settlings.{settlement}
 use Rattle.vx_context.specs.Stores.{ContextStore, item_of}
 use Rattle.vx_context.specs.Stands.{IsNext}
-use Rattle.vx_core_bus.specs.Stores.{BusStore, task_of, row_of, timer_of, asker_in}
+use Rattle.vx_core_bus.specs.Stores.{BusStore, row_of, timer_of, asker_in}
 use Rattle.vx_core_bus.specs.Stands.{StoresStand, TimesOut}
-use Rattle.vx_hub.specs.Advancing.{Advanced, HasAdvanced, ended_first, is_among, timeouts}
+use Rattle.vx_hub.specs.Advancing.{Advanced, HasAdvanced, ended_first, is_among, timeouts, timed_out}
 use Rattle.vx_hub.proofs.Requests.{or_none, or_assoc, map-or, map_if, find-map, filter-map, find-filter, filter-both, All-from-map, next_behind, Each-behind, none_before, first_part, same_open-self, found_each, among_more, outcome_items-push}
 
 -- ## At first, none has ended
@@ -67,6 +67,16 @@ timeouts_more history count request rest left =
     ∙ outcome_items-push 0 (map settle (take count due)) (settle request)
     ∙ ap (λ n. timeouts history count ++ outcome_item n (settle request) ∷ []) counted
 
+timed_out_more : (history : List Traced) (count : ℕ) (request : Open) (rest : List Open) → IsNextDue history count request rest →
+    timed_out history (suc count) ≡ timed_out history count ++ tasks.Outcome request.id timeout ∷ []
+timed_out_more history count request rest left =
+    let due = by_due (unsettled history) in
+    let settle = settlement history timeout in
+    let task = λ (s : Settled). tasks.Outcome s.request s.outcome in
+    ap (λ rs. outcome_tasks (map settle rs)) (next_behind due count request rest left).front
+    ∙ ap outcome_tasks (map-append settle (take count due) (request ∷ []))
+    ∙ map-append task (map settle (take count due)) (settle request ∷ [])
+
 -- the store finds it, and who asked
 asker_there : (old_contexts contexts : ContextStore) (timers : List Timer) (old_bus bus : BusStore) (history : List Traced) (moment count : ℕ) (request : Open) (rest : List Open) →
     Advanced old_contexts contexts timers old_bus bus history moment count → IsNextDue history count request rest →
@@ -100,18 +110,16 @@ items_more old contexts new history at count request rest is_next left is_contex
 
 -- what the bus has then
 tasks_more : (old bus new : BusStore) (history : List Traced) (count : ℕ) (request : Open) (rest : List Open) → IsNextDue history count request rest →
-    bus ≡ record old { tasks = old.tasks ++ filter_map task_of (timeouts history count); requests = bus.requests; room = bus.room } →
+    bus ≡ record old { tasks = old.tasks ++ timed_out history count; requests = bus.requests; room = bus.room } →
     new ≡ record bus { tasks = bus.tasks ++ tasks.Outcome request.id timeout ∷ []; requests = new.requests; room = new.room } →
-    new ≡ record old { tasks = old.tasks ++ filter_map task_of (timeouts history (suc count)); requests = new.requests; room = new.room }
+    new ≡ record old { tasks = old.tasks ++ timed_out history (suc count); requests = new.requests; room = new.room }
 tasks_more old bus new history count request rest left is_bus is_new =
-    let last = outcome_item count (settlement history timeout request) in
-    let before = filter_map task_of (timeouts history count) in
+    let last = tasks.Outcome request.id timeout in
     is_new
-    ∙ ap (λ (s : BusStore). let more : BusStore = record s { tasks = s.tasks ++ last.task ∷ []; requests = new.requests; room = new.room } in more) is_bus
+    ∙ ap (λ (s : BusStore). let more : BusStore = record s { tasks = s.tasks ++ last ∷ []; requests = new.requests; room = new.room } in more) is_bus
     ∙ ap (λ ts. let s : BusStore = record old { tasks = ts; requests = new.requests; room = new.room } in s)
-    (append_assoc old.tasks before (last.task ∷ [])
-    ∙ ap (λ ts. old.tasks ++ ts) (sym (filter_map-append task_of (timeouts history count) (last ∷ [])))
-    ∙ ap (λ ws. old.tasks ++ filter_map task_of ws) (sym (timeouts_more history count request rest left)))
+    (append_assoc old.tasks (timed_out history count) (last ∷ [])
+    ∙ ap (λ ts. old.tasks ++ ts) (sym (timed_out_more history count request rest left)))
 
 -- which requests wait then
 left_more : (history : List Traced) (count : ℕ) (request : Open) (rest : List Open) (waiting new_waiting : List OpenRequest) → IsNextDue history count request rest →

@@ -1,6 +1,6 @@
 -- From the row of a call to the hub's promise.
 use Rattle.std.proofs.Common.{◌≡◌, ℕ, ◌+◌, ◌-◌, ◌<◌, ◌^◌, min, max, List, [], ◌∷◌, ◌++◌, length, refl, ap, sym, ◌∙◌, subst, rules, tests}
-use Rattle.std.specs.Prelude.{Bool, true, false, ◌&&◌, cond, nat_le, fold}
+use Rattle.std.specs.Prelude.{Bool, true, false, cond, nat_le, fold}
 use Rattle.std.proofs.lemmas.List.Sums.{fold-append}
 use Rattle.std.proofs.Math.Logic.{∥∥₁_map}
 use Rattle.vx_data.specs.declared.ids.PassNo.{PassNo}
@@ -17,14 +17,15 @@ use Rattle.vx_call.specs.Requests.{moment_kind, moment_made, now}
 use Rattle.vx_call.specs.Refusals.{unless_refused, refused_if, is_spent}
 use Rattle.vx_call.specs.Machine.{row, answer}
 use Rattle.vx_call.specs.Plain.{is_plain}
-use Rattle.vx_call.proofs.Lasting.{lasting_same, lasting_more}
+use Rattle.vx_call.proofs.Lasting.{lasting_same, lasting_more, and_false}
 use Rattle.vx_call.proofs.Legal.{legal_more}
 use Rattle.vx_call.proofs.Refused.{refused_unchanged}
 use Rattle.vx_context.specs.Stores.{ContextStore}
 use Rattle.vx_context.specs.Stands.{ContextsFollow}
 use Rattle.vx_core_bus.specs.Stores.{BusStore, is_bus_call}
 use Rattle.vx_core_bus.specs.Stands.{Follows, BusStands, TimersStand, AreOfOneHistory}
-use Rattle.vx_core_bus.proofs.Frames.{contexts_left, timers_left, bus_left}
+use Rattle.vx_call.proofs.Mailboxes.{mailbox_unmoved}
+use Rattle.vx_core_bus.proofs.Frames.{LeavesBus, contexts_left, timers_left, numbers_left, bus_left}
 use Rattle.vx_hub.specs.Counts.{with_entry}
 use Rattle.vx_hub.specs.Stores.{HubStore}
 use Rattle.vx_hub.specs.Stands.{PartsStand, PartsFollow, HubStands, StandsFor, Meets, IsOfHistory}
@@ -36,10 +37,6 @@ use Rattle.vx_hub.proofs.RowNewPass.{passes_left, more_passes}
 either : {A : Type 0} (b : Bool) (x : A) → cond b x x ≡ x
 either true x = refl
 either false x = refl
-
-never : (b : Bool) → (b && false) ≡ false
-never true = refl
-never false = refl
 
 -- the calls that make no pass and tell no time
 abbrev pub keeps_time : Call → Bool
@@ -61,7 +58,7 @@ bus_keeps_time (calls.Advance moment) own = cc
 bus_keeps_time _ own = refl
 
 pub moment_stays : (history : List Traced) (new : Traced) (moment : ℕ) → ended_by moment_kind history new moment ≡ false
-moment_stays history new moment = never (is_accepted new.entry.reply)
+moment_stays history new moment = and_false (is_accepted new.entry.reply)
 
 pub now_left : (history : List Traced) (new : Traced) → made_by moment_kind history new ≡ [] → now (history ++ new ∷ []) ≡ now history
 now_left history new none = ap (fold max 0) (lasting_same moment_kind history new none (moment_stays history new))
@@ -87,43 +84,53 @@ leaves_bus calls.NewContext = true
 leaves_bus (calls.Finish end) = true
 leaves_bus _ = false
 
+-- an entry of one of them leaves all that the bus keeps
+pub untouched : (history : List Traced) (pass : PassNo) (call : Call) (reply : Reply) → leaves_bus call ≡ true → LeavesBus history (plain_entry pass call reply)
+untouched history pass calls.NewPass reply leaves = let entry = plain_entry pass calls.NewPass reply in record {
+  consumers = record { registered = either (is_accepted reply) []; kept = λ c. and_false (is_accepted reply) };
+  numbers = numbers_left history entry (λ c. mailbox_unmoved history entry c refl);
+  choices = either (is_accepted reply) [];
+  tasks = record { made = either (is_accepted reply) []; kept = λ t. and_false (is_accepted reply) };
+  requests = record { opened = either (is_accepted reply) []; settled = λ r. and_false (is_accepted reply) };
+  settled = either (is_accepted reply) [];
+  given = either (is_accepted reply) [];
+  codecs = record { added = either (is_accepted reply) []; kept = λ c. and_false (is_accepted reply) };
+  rules = record { added = either (is_accepted reply) []; kept = λ r. and_false (is_accepted reply) };
+}
+untouched history pass calls.NewContext reply leaves = let entry = plain_entry pass calls.NewContext reply in record {
+  consumers = record { registered = either (is_accepted reply) []; kept = λ c. and_false (is_accepted reply) };
+  numbers = numbers_left history entry (λ c. mailbox_unmoved history entry c refl);
+  choices = either (is_accepted reply) [];
+  tasks = record { made = either (is_accepted reply) []; kept = λ t. and_false (is_accepted reply) };
+  requests = record { opened = either (is_accepted reply) []; settled = λ r. and_false (is_accepted reply) };
+  settled = either (is_accepted reply) [];
+  given = either (is_accepted reply) [];
+  codecs = record { added = either (is_accepted reply) []; kept = λ c. and_false (is_accepted reply) };
+  rules = record { added = either (is_accepted reply) []; kept = λ r. and_false (is_accepted reply) };
+}
+untouched history pass (calls.Finish end) reply leaves = let entry = plain_entry pass (calls.Finish end) reply in record {
+  consumers = record { registered = either (is_accepted reply) []; kept = λ c. and_false (is_accepted reply) };
+  numbers = numbers_left history entry (λ c. mailbox_unmoved history entry c refl);
+  choices = either (is_accepted reply) [];
+  tasks = record { made = either (is_accepted reply) []; kept = λ t. and_false (is_accepted reply) };
+  requests = record { opened = either (is_accepted reply) []; settled = λ r. and_false (is_accepted reply) };
+  settled = either (is_accepted reply) [];
+  given = either (is_accepted reply) [];
+  codecs = record { added = either (is_accepted reply) []; kept = λ c. and_false (is_accepted reply) };
+  rules = record { added = either (is_accepted reply) []; kept = λ r. and_false (is_accepted reply) };
+}
+untouched history pass _ reply leaves = absurd cc
+
 bus_untouched : (store : BusStore) (history : List Traced) (pass : PassNo) (call : Call) (reply : Reply) → leaves_bus call ≡ true → BusStands store history → BusStands store (history ++ plain_entry pass call reply ∷ [])
-bus_untouched store history pass calls.NewPass reply leaves stands = bus_left store history (plain_entry pass calls.NewPass reply) (record {
-  consumers = either (is_accepted reply) [];
-  ended = λ c. never (is_accepted reply);
-  choices = either (is_accepted reply) [];
-  waiting = record { none = either (is_accepted reply) []; kept = λ x. never (is_accepted reply) };
-  requests = record { opened = either (is_accepted reply) []; settled = λ r. never (is_accepted reply) };
-  settled = either (is_accepted reply) [];
-  given = either (is_accepted reply) [];
-}) stands
-bus_untouched store history pass calls.NewContext reply leaves stands = bus_left store history (plain_entry pass calls.NewContext reply) (record {
-  consumers = either (is_accepted reply) [];
-  ended = λ c. never (is_accepted reply);
-  choices = either (is_accepted reply) [];
-  waiting = record { none = either (is_accepted reply) []; kept = λ x. never (is_accepted reply) };
-  requests = record { opened = either (is_accepted reply) []; settled = λ r. never (is_accepted reply) };
-  settled = either (is_accepted reply) [];
-  given = either (is_accepted reply) [];
-}) stands
-bus_untouched store history pass (calls.Finish end) reply leaves stands = bus_left store history (plain_entry pass (calls.Finish end) reply) (record {
-  consumers = either (is_accepted reply) [];
-  ended = λ c. never (is_accepted reply);
-  choices = either (is_accepted reply) [];
-  waiting = record { none = either (is_accepted reply) []; kept = λ x. never (is_accepted reply) };
-  requests = record { opened = either (is_accepted reply) []; settled = λ r. never (is_accepted reply) };
-  settled = either (is_accepted reply) [];
-  given = either (is_accepted reply) [];
-}) stands
-bus_untouched store history pass _ reply leaves stands = absurd cc
+bus_untouched store history pass call reply leaves stands = bus_left store history (plain_entry pass call reply) (untouched history pass call reply leaves) stands
 
 timers_untouched : (timers : List Timer) (history : List Traced) (pass : PassNo) (call : Call) (reply : Reply) → leaves_bus call ≡ true → TimersStand timers history → TimersStand timers (history ++ plain_entry pass call reply ∷ [])
 timers_untouched timers history pass calls.NewPass reply leaves stands =
-    timers_left timers history (plain_entry pass calls.NewPass reply) (record { opened = either (is_accepted reply) []; settled = λ r. never (is_accepted reply) }) stands
+    timers_left timers history (plain_entry pass calls.NewPass reply) (record { opened = either (is_accepted reply) []; settled = λ r. and_false (is_accepted reply) }) stands
 timers_untouched timers history pass calls.NewContext reply leaves stands =
-    timers_left timers history (plain_entry pass calls.NewContext reply) (record { opened = either (is_accepted reply) []; settled = λ r. never (is_accepted reply) }) stands
+    timers_left timers history (plain_entry pass calls.NewContext reply) (record { opened = either (is_accepted reply) []; settled = λ r. and_false (is_accepted reply) }) stands
 timers_untouched timers history pass (calls.Finish end) reply leaves stands =
-    timers_left timers history (plain_entry pass (calls.Finish end) reply) (record { opened = either (is_accepted reply) []; settled = λ r. never (is_accepted reply) }) stands
+    timers_left timers history (plain_entry pass (calls.Finish end) reply) (record { opened = either (is_accepted reply) []; settled = λ r. and_false (is_accepted reply) }) stands
 timers_untouched timers history pass _ reply leaves stands = absurd cc
 
 pub leaving_bus : (contexts : ContextStore) (timers : List Timer) (bus : BusStore) (history : List Traced) (pass : PassNo) (call : Call) (reply : Reply) → leaves_bus call ≡ true → TimersStand timers history → BusStands bus history →

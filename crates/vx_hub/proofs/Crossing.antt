@@ -5,7 +5,9 @@ use Rattle.vx_data.proofs.body.Body.TheLaws.TheKnot as body
 use Rattle.vx_data.proofs.ids.MessageId.TheSendSync.{the_send as message_id}
 use Rattle.vx_data.proofs.text.Text.TheSendSync.{the_send as text}
 use Rattle.vx_data.proofs.moment.Moment.TheSendSync.{the_send as moment}
-use Rattle.vx_call.proofs.history.Consumer.TheSendSync.{the_send as consumer}
+use Rattle.vx_rules.proofs.codecs.Codecs.TheSendSync.{the_send as codecs}
+use Rattle.vx_rules.proofs.rules.Rules.TheSendSync.{the_send as rules}
+use Rattle.vx_core_bus.proofs.bus.Handler.TheSendSync.{the_send as handler}
 use Rattle.vx_request.proofs.given.GivenOut.TheSendSync.{the_send as given_out}
 use Rattle.vx_request.proofs.requests.Requests.TheSendSync.{the_send as requests}
 use Rattle.vx_ring.proofs.rings.Rings.TheSendSync.{the_send as rings}
@@ -15,7 +17,7 @@ use Rattle.vx_core_bus.specs.contracts.bus.Bus as bus
 use Rattle.vx_hub.specs.contracts.hub.Hub as hub
 
 pub bus_send : IsSend bus.the_row
-bus_send = search (sendable, std.crosses, body.crosses, message_id, text, consumer, given_out, requests, rings) depth 30
+bus_send = search (sendable, std.crosses, body.crosses, message_id, text, handler, given_out, requests, rings, codecs, rules) depth 30
 
 pub hub_send : IsSend hub.the_row
 hub_send = search (sendable, std.crosses, moment, contexts, timers, bus_send) depth 30

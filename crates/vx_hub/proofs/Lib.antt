@@ -1,4 +1,3 @@
-pub mod Positions
 pub mod Views
 pub mod RowNewPass
 pub mod RowNewContext

@@ -1,13 +1,11 @@
 -- Advance.
 use Rattle.std.proofs.Common.{◌≡◌, ℕ, ◌≤◌, ◌<◌, List, [], ◌∷◌, ◌++◌, length, take, drop, refl, ap, sym, ◌∙◌, subst, arith}
 use Rattle.std.specs.Prelude.{true, false, not, nat_le, max, map, filter, find}
-use Rattle.std.specs.List.{count_by, filter_map}
 use Rattle.std.specs.Option.{option_map, option_or}
-use Rattle.std.specs.Str.{bytes_eq}
 use Rattle.std.proofs.lemmas.Bool.Decides.{nat_tests}
 use Rattle.std.proofs.lemmas.List.{append-nil, map-append}
 use Rattle.std.proofs.lemmas.List.Folds.{find-append}
-use Rattle.std.proofs.lemmas.List.Elements.{filter_map-append, All-weaker}
+use Rattle.std.proofs.lemmas.List.Elements.{All-weaker}
 use Rattle.vx_data.specs.declared.ids.PassNo.{PassNo}
 use Rattle.vx_data.specs.declared.ids.MessageId.{MessageId}
 use Rattle.vx_message.specs.declared.Given.{Given}
@@ -21,24 +19,23 @@ use Rattle.vx_call.specs.History.{plain_entry, lasting}
 use Rattle.vx_data.specs.Ids.{same_message}
 use Rattle.vx_call.specs.Names.{next_entry}
 use Rattle.vx_call.specs.Contexts.{context_kind}
-use Rattle.vx_call.specs.Consumers.{consumer_kind, is_at}
-use Rattle.vx_call.specs.Choices.{choice_kind}
 use Rattle.vx_call.specs.Given.{given_kind}
 use Rattle.vx_call.specs.Requests.{Open, open_kind, now, unsettled, by_due}
 use Rattle.vx_call.specs.Settled.{Settled, settled_kind, timeout}
-use Rattle.vx_call.specs.Items.{item_kind, waiting, outcome_items}
+use Rattle.vx_call.specs.Items.{item_kind, waiting, outcome_items, task_kind, untaken, outcome_tasks}
 use Rattle.vx_call.specs.Held.{held_kind}
-use Rattle.vx_call.specs.Rows.{ids_of}
 use Rattle.vx_call.proofs.Lasting.{lasting_same, lasting_more, lasting-append}
 use Rattle.vx_call.proofs.Each.{Each, weaken}
-use Rattle.vx_call.proofs.Opened.{unsettled_apart, settlement, is_settled_as, settled-append}
+use Rattle.vx_call.proofs.Opened.{unsettled_apart}
+use Rattle.vx_call.proofs.Settlings.{settlement, is_settled_as, settled-append}
 use Rattle.vx_call.proofs.ByDue.{is_up, length-by_due, by_due-filter, due_front, due_rest}
 use Rattle.vx_context.specs.Stores.{ContextStore, item_of}
 use Rattle.vx_context.specs.Stands.{ContextsStand}
-use Rattle.vx_core_bus.specs.Stores.{BusStore, task_of, row_of, timer_of}
+use Rattle.vx_core_bus.specs.Stores.{BusStore, row_of, timer_of}
 use Rattle.vx_core_bus.specs.Stands.{StoresStand, BusStands, TimersStand, Follows}
-use Rattle.vx_core_bus.proofs.Frames.{never_ended, none_emptied, never_taken_back}
-use Rattle.vx_hub.specs.Advancing.{Advanced, HasAdvanced, ended_first, is_among, timeouts}
+use Rattle.vx_call.proofs.Mailboxes.{mailbox_unmoved}
+use Rattle.vx_core_bus.proofs.Frames.{never_ended, never_taken_back, handlers_left, numbers_left, rings_left, choices_left, codecs_left, rules_left, LeavesConsumers}
+use Rattle.vx_hub.specs.Advancing.{Advanced, HasAdvanced, ended_first, is_among, timeouts, timed_out}
 use Rattle.vx_hub.proofs.Requests.{map-or, map-map, find-map, filter_same, length-passing, among_passing, any-by_due}
 
 -- ## Those that have ended are those whose time is up
@@ -96,6 +93,12 @@ waiting_then history pass moment count up =
     lasting_more item_kind history (entry_of pass moment count) (λ item. refl)
     ∙ ap (λ (rs : List Open). waiting history ++ outcome_items 0 (map (settlement history timeout) rs)) up.front
 
+-- the tasks that were not taken by then
+untaken_then : (history : List Traced) (pass : PassNo) (moment count : ℕ) → AreUp history (told history moment) count → untaken (after history pass moment count) ≡ untaken history ++ timed_out history count
+untaken_then history pass moment count up =
+    lasting_more task_kind history (entry_of pass moment count) (λ task. refl)
+    ∙ ap (λ (rs : List Open). untaken history ++ outcome_tasks (map (settlement history timeout) rs)) up.front
+
 -- how a request has ended then
 ended_then : (history : List Traced) (pass : PassNo) (moment count : ℕ) (id : MessageId) → AreUp history (told history moment) count →
     option_map (λ (s : Settled). s.at) (find (is_settled_as id) (lasting settled_kind (after history pass moment count)))
@@ -131,16 +134,15 @@ advanced_bus : (old_contexts contexts : ContextStore) (timers : List Timer) (old
     Advanced old_contexts contexts timers old new history (told history moment) count → BusStands new (after history pass moment count)
 advanced_bus old_contexts contexts timers old new history pass moment count stands up advanced =
     let entry = entry_of pass moment count in
-    let same = lasting_same consumer_kind history entry refl (λ c. refl) in
+    let consumers : LeavesConsumers history entry = record { registered = refl; kept = λ c. refl } in
     let is_new = advanced.tasks in
     record {
-      consumers = ap (λ (s : BusStore). s.consumers) is_new ∙ stands.consumers ∙ sym same;
-      rings = λ a. ap (λ (s : BusStore). consumers_at a s.rings) is_new ∙ stands.rings a ∙ ap (λ cs. ids_of (filter (is_at a) cs)) (sym same);
-      choices = λ a. ap (λ (s : BusStore). choices_at a s.rings) is_new ∙ stands.choices a ∙ ap (count_by (bytes_eq a)) (sym (lasting_same choice_kind history entry refl (none_emptied history entry same)));
+      consumers = ap (λ (s : BusStore). s.consumers) is_new ∙ stands.consumers ∙ sym (handlers_left history entry consumers (numbers_left history entry (λ c. mailbox_unmoved history entry c refl)));
+      rings = λ a. ap (λ (s : BusStore). consumers_at a s.rings) is_new ∙ stands.rings a ∙ sym (rings_left history entry a consumers);
+      choices = λ a. ap (λ (s : BusStore). choices_at a s.rings) is_new ∙ stands.choices a ∙ sym (choices_left history entry a consumers refl);
       tasks = ap (λ (s : BusStore). s.tasks) is_new
-          ∙ ap (λ ts. ts ++ filter_map task_of (timeouts history count)) stands.tasks
-          ∙ sym (filter_map-append task_of (waiting history) (timeouts history count))
-          ∙ ap (filter_map task_of) (sym (waiting_then history pass moment count up));
+          ∙ ap (λ ts. ts ++ timed_out history count) stands.tasks
+          ∙ sym (untaken_then history pass moment count up);
       opened = advanced.left
           ∙ ap (map row_of) (filter_same _ _ (unsettled history) up.among)
           ∙ ap (map row_of) (sym (still_open history pass moment count));
@@ -149,6 +151,8 @@ advanced_bus old_contexts contexts timers old new history pass moment count stan
           ∙ sym (ended_then history pass moment count id up);
       given = λ id. ap (λ (s : BusStore). given_at id s.given) is_new ∙ stands.given id
           ∙ ap (λ gs. find (λ (g : Given). same_message id g.id) gs) (sym (lasting_same given_kind history entry refl (never_taken_back history entry)));
+      codecs = ap (λ (s : BusStore). s.codecs) is_new ∙ stands.codecs ∙ sym (codecs_left history entry (record { added = refl; kept = λ c. refl }));
+      rules = ap (λ (s : BusStore). s.rules) is_new ∙ stands.rules ∙ sym (rules_left history entry (record { added = refl; kept = λ r. refl }));
     }
 
 advanced_timers : (timers : List Timer) (history : List Traced) (pass : PassNo) (moment count : ℕ) → AreUp history (told history moment) count →

@@ -1,8 +1,6 @@
 -- Take.
 use Rattle.std.proofs.Common.{◌≡◌, ℕ, ◌<◌, List, [], ◌∷◌, ◌++◌, length, get_or, refl, ap, sym, ◌∙◌, subst, arith}
 use Rattle.std.specs.Prelude.{true, not, ◌&&◌, filter, remove, map, find, position, is_some, Option, None, Some}
-use Rattle.std.specs.List.{count_by, filter_map}
-use Rattle.std.specs.Str.{bytes_eq}
 use Rattle.std.specs.Option.{option_map, option_or}
 use Rattle.std.proofs.lemmas.List.{append-nil, length-map, get_or-map, get_or_default}
 use Rattle.std.proofs.lemmas.List.Quantifiers.{position-Some}
@@ -29,29 +27,31 @@ use Rattle.vx_call.specs.declared.history.Traced.{Traced}
 use Rattle.vx_call.specs.History.{plain_entry, lasting}
 use Rattle.vx_data.specs.Ids.{same_message}
 use Rattle.vx_call.specs.Contexts.{context_kind}
-use Rattle.vx_call.specs.Consumers.{consumer_kind, is_at}
-use Rattle.vx_call.specs.Choices.{choice_kind}
 use Rattle.vx_call.specs.Given.{context_of, given, given_kind, given_by_task}
-use Rattle.vx_call.specs.Requests.{open_kind}
-use Rattle.vx_call.specs.Settled.{Settled, settled_kind}
-use Rattle.vx_call.specs.Rows.{ids_of}
-use Rattle.vx_call.specs.Items.{Waiting, item_kind, waiting, kind_of, same_kind, same_task}
+use Rattle.vx_call.specs.Settled.{Settled}
+use Rattle.vx_call.specs.Items.{Waiting, item_kind, waiting, task_kind, untaken, kind_of, same_task}
 use Rattle.vx_call.specs.Held.{held_kind, held, runs}
 use Rattle.vx_call.specs.Next.{is_on, next}
 use Rattle.vx_call.specs.Refusals.{unless_refused}
 use Rattle.vx_call.specs.Rows.{take_refusal, handed_out}
 use Rattle.vx_call.proofs.Lasting.{lasting_same, lasting_more, lasting-append}
 use Rattle.vx_call.proofs.Each.{Each-at}
-use Rattle.vx_call.proofs.Apart.{remove_apart, before_apart}
+use Rattle.vx_call.proofs.Apart.{remove_apart}
 use Rattle.vx_call.proofs.Owners.{IsOwned, waiting_owned}
-use Rattle.vx_call.proofs.Waiting.{same_waiting, same_task-self, same_task-swap, waiting_apart}
+use Rattle.vx_call.specs.declared.history.Consumer.{Consumer}
+use Rattle.vx_call.specs.Mailboxes.{mailbox}
+use Rattle.vx_consumer.specs.Mailboxes.{numbers_of}
+use Rattle.vx_call.proofs.Mailboxes.{mailbox_unmoved}
+use Rattle.vx_call.proofs.Taking.{take_numbers}
+use Rattle.vx_call.proofs.Tasks.{same_task-self, same_task-swap, untaken_apart}
+use Rattle.vx_call.proofs.Waiting.{same_waiting, waiting_apart, waiting_untaken}
 use Rattle.vx_context.specs.Stores.{ContextStore, item_of, runs_in, is_on_lane, is_ready}
 use Rattle.vx_context.specs.Stands.{ContextsStand, IsNext}
-use Rattle.vx_core_bus.specs.Stores.{BusStore, task_of, row_of, is_of_kind, has_task, without_first}
+use Rattle.vx_core_bus.specs.Stores.{BusStore, row_of, is_of_kind, has_task, without_first}
 use Rattle.vx_core_bus.specs.Stands.{StoresStand, BusStands, Follows, AreOfOneHistory}
-use Rattle.vx_core_bus.proofs.Frames.{never_ended, none_emptied, never_settled, never_taken_back, contexts_left, timers_left, bus_left, LeavesWaiting}
-use Rattle.vx_hub.proofs.Positions.{find_from_position, find_from_no_position}
-use Rattle.vx_hub.proofs.Views.{Matches, IsFirst, remove-map, position-map, find-filter_map, without_first-filter_map}
+use Rattle.vx_core_bus.proofs.Frames.{never_ended, never_taken_back, contexts_left, timers_left, bus_left, handlers_left, numbers_left, rings_left, choices_left, requests_left, ended_left, codecs_left, rules_left, LeavesWaiting, LeavesConsumers, LeavesNumbers}
+use Rattle.vx_core_bus.proofs.Positions.{find_from_position, find_from_no_position}
+use Rattle.vx_hub.proofs.Views.{remove-map, position-map, without_first-apart, alone}
 
 -- ## The next task of a lane
 
@@ -82,7 +82,17 @@ takes_none contexts timers bus history pass lane stands free none =
       stores = record {
         contexts = contexts_left contexts history entry (record { contexts = refl; held = refl; finished = λ h. refl; waiting = waits }) stands.contexts;
         timers = timers_left timers history entry (record { opened = refl; settled = λ r. refl }) stands.timers;
-        bus = bus_left bus history entry (record { consumers = refl; ended = λ c. refl; choices = refl; waiting = waits; requests = record { opened = refl; settled = λ r. refl }; settled = refl; given = refl }) stands.bus;
+        bus = bus_left bus history entry (record {
+          consumers = record { registered = refl; kept = λ c. refl };
+          numbers = numbers_left history entry (λ c. mailbox_unmoved history entry c refl);
+          choices = refl;
+          tasks = record { made = refl; kept = λ t. refl };
+          requests = record { opened = refl; settled = λ r. refl };
+          settled = refl;
+          given = refl;
+          codecs = record { added = refl; kept = λ c. refl };
+          rules = record { added = refl; kept = λ r. refl };
+        }) stands.bus;
       };
     }
 
@@ -110,15 +120,6 @@ item_there store history i item stands inside read =
         read ∙ ap (λ xs. get_or xs i item) stands.waiting ∙ get_or-map item_of (waiting history) i first item there,
       ),
     )
-
--- no task before it is the same one
-pub is_first : (history : List Traced) (i : ℕ) (w : Waiting) → WaitsAt history i w → IsFirst (same_waiting w) (waiting history) i w
-is_first history i w at = record {
-  inside = at.inside;
-  here = ap (λ (x : Waiting). same_waiting w x) (at.read w) ∙ same_task-self w.task;
-  before = λ k lt. ap (λ (x : Waiting). same_waiting x (get_or (waiting history) k w)) (sym (at.read w))
-      ∙ before_apart same_waiting (λ x y. same_task-swap x.task y.task) (waiting history) i k w (waiting_apart history) at.inside lt;
-}
 
 -- the tasks that wait after a Take: all but the one that it hands out
 pub taken_waiting : (history : List Traced) (pass : PassNo) (lane : Lane) (i : ℕ) (w : Waiting) → WaitsAt history i w →
@@ -155,16 +156,27 @@ taken_contexts old new history at pass lane i item w stands is_next waits is_ite
 
 -- ## The task at the place
 
-same_kind_of : (kind : ItemKind) (task : Task) → kind_of task ≡ kind → (other : Waiting) → Matches (is_of_kind kind) (task_of other) (same_task task other.task)
-same_kind_of kind task is_kind other = ap (λ k. same_kind k (kind_of other.task)) (sym is_kind)
+-- it was made and not taken
+is_untaken : (history : List Traced) (i : ℕ) (w : Waiting) → WaitsAt history i w → find (same_task w.task) (untaken history) ≡ Some w.task
+is_untaken history i w waits =
+    let Q : Waiting → Type 0 = λ item. find (same_task item.task) (untaken history) ≡ Some item.task in
+    subst Q (waits.read w) (Each-at Q (waiting history) i w waits.inside (waiting_untaken history))
 
 -- the bus has the task that waits
 pub find_task : (bus : BusStore) (history : List Traced) (i : ℕ) (w : Waiting) (kind : ItemKind) → BusStands bus history → WaitsAt history i w → kind_of w.task ≡ kind →
     find (is_of_kind kind) bus.tasks ≡ Some w.task
 find_task bus history i w kind stands waits is_kind =
     ap (find (is_of_kind kind)) stands.tasks
-    ∙ find-filter_map task_of (is_of_kind kind) (same_waiting w) (same_kind_of kind w.task is_kind) (waiting history) i w (is_first history i w waits)
-    ∙ ap task_of (waits.read w)
+    ∙ ap (λ k. find (is_of_kind k) (untaken history)) (sym is_kind)
+    ∙ is_untaken history i w waits
+
+-- an entry that takes it leaves the others
+taken_untaken : (history : List Traced) (pass : PassNo) (lane : Lane) (task : Task) →
+    untaken (history ++ plain_entry pass (calls.Take lane) (replies.Task task) ∷ []) ≡ without_first (same_task task) (untaken history)
+taken_untaken history pass lane task =
+    lasting-append task_kind history (plain_entry pass (calls.Take lane) (replies.Task task))
+    ∙ append-nil _
+    ∙ sym (without_first-apart (same_task task) (untaken history) (alone task (untaken history) (untaken_apart history)))
 
 -- the task that waits is there
 pub task_there : (contexts : ContextStore) (timers : List Timer) (bus : BusStore) (i : ℕ) (item : Item) → AreOfOneHistory contexts timers bus → i < length contexts.waiting →
@@ -192,23 +204,25 @@ taken_bus old new history pass lane i w kind context stands waits is_kind is_con
     let entry = plain_entry pass (calls.Take lane) (replies.Task w.task) in
     let Q : Waiting → Type 0 = IsOwned history in
     let owned : context_of history w.task ≡ Some w.context = subst Q (waits.read w) (Each-at Q (waiting history) i w waits.inside (waiting_owned history)) in
-    let same = lasting_same consumer_kind history entry refl (λ c. refl) in
-    let requests = lasting_same open_kind history entry refl (λ r. refl) in
+    let consumers : LeavesConsumers history entry = record { registered = refl; kept = λ c. refl } in
+    let N : Consumer → Waiting → Type 0 = λ consumer item. numbers_of (mailbox (history ++ plain_entry pass (calls.Take lane) (replies.Task item.task) ∷ []) consumer) ≡ numbers_of (mailbox history consumer) in
+    let numbers : LeavesNumbers history entry = λ consumer is_live. subst (N consumer) (waits.read w) (Each-at (N consumer) (waiting history) i w waits.inside (take_numbers history pass lane consumer is_live)) in
     record {
-      consumers = ap (λ (s : BusStore). s.consumers) is_new ∙ stands.consumers ∙ sym same;
-      rings = λ a. ap (λ (s : BusStore). consumers_at a s.rings) is_new ∙ stands.rings a ∙ ap (λ cs. ids_of (filter (is_at a) cs)) (sym same);
-      choices = λ a. ap (λ (s : BusStore). choices_at a s.rings) is_new ∙ stands.choices a ∙ ap (count_by (bytes_eq a)) (sym (lasting_same choice_kind history entry refl (none_emptied history entry same)));
+      consumers = ap (λ (s : BusStore). s.consumers) is_new ∙ stands.consumers ∙ sym (handlers_left history entry consumers numbers);
+      rings = λ a. ap (λ (s : BusStore). consumers_at a s.rings) is_new ∙ stands.rings a ∙ sym (rings_left history entry a consumers);
+      choices = λ a. ap (λ (s : BusStore). choices_at a s.rings) is_new ∙ stands.choices a ∙ sym (choices_left history entry a consumers refl);
       tasks = ap (λ (s : BusStore). s.tasks) is_new
           ∙ ap (without_first (is_of_kind kind)) stands.tasks
-          ∙ without_first-filter_map task_of (is_of_kind kind) (same_waiting w) (same_kind_of kind w.task is_kind) (waiting history) i w (is_first history i w waits)
-          ∙ ap (filter_map task_of) (sym (taken_waiting history pass lane i w waits));
-      opened = ap (λ (s : BusStore). s.requests.waiting) is_new ∙ stands.opened ∙ ap (map row_of) (sym requests);
-      ended = λ id. ap (λ (s : BusStore). ended_at id s.requests.ended) is_new ∙ stands.ended id
-          ∙ ap (λ ss. option_map (λ (s : Settled). s.at) (find (λ (s : Settled). same_message id s.request) ss)) (sym (lasting_same settled_kind history entry refl (never_settled history entry)));
+          ∙ ap (λ k. without_first (is_of_kind k) (untaken history)) (sym is_kind)
+          ∙ sym (taken_untaken history pass lane w.task);
+      opened = ap (λ (s : BusStore). s.requests.waiting) is_new ∙ stands.opened ∙ ap (map row_of) (sym (requests_left history entry (record { opened = refl; settled = λ r. refl })));
+      ended = λ id. ap (λ (s : BusStore). ended_at id s.requests.ended) is_new ∙ stands.ended id ∙ ap (option_map (λ (s : Settled). s.at)) (sym (ended_left history entry id refl));
       given = λ id. is_given id
           ∙ ap (λ g. option_or g (find (λ (g : Given). same_message id g.id) (given_by_task (Some context) w.task))) (stands.given id)
           ∙ ap (λ k. option_or (given history id) (find (λ (g : Given). same_message id g.id) (given_by_task (Some k) w.task))) (sym is_context)
           ∙ sym (given_out history pass lane w id owned);
+      codecs = ap (λ (s : BusStore). s.codecs) is_new ∙ stands.codecs ∙ sym (codecs_left history entry (record { added = refl; kept = λ c. refl }));
+      rules = ap (λ (s : BusStore). s.rules) is_new ∙ stands.rules ∙ sym (rules_left history entry (record { added = refl; kept = λ r. refl }));
     }
 
 -- ## The row

@@ -1,8 +1,14 @@
 -- Lists of which a store keeps a part of each element.
-use Rattle.std.proofs.Common.{◌≡◌, ℕ, ◌+◌, ◌<◌, zero, suc, List, [], ◌∷◌, ◌++◌, length, get_or, take, drop, refl, ap, sym, ◌∙◌, arith}
-use Rattle.std.specs.Prelude.{Bool, true, false, not, cond, nat_lt, Option, Some, None, position, find, remove, map}
-use Rattle.std.specs.List.{filter_map, cons_option, prefix_len, position_or_len}
+use Rattle.std.proofs.Common.{◌≡◌, ℕ, ◌+◌, suc, List, [], ◌∷◌, ◌++◌, length, take, drop, refl, ap, sym, ◌∙◌}
+use Rattle.std.specs.Prelude.{⊤, Bool, true, false, not, cond, ◌==◌, ◌&&◌, nat_lt, Some, None, position, filter, remove, map}
+use Rattle.std.specs.List.{prefix_len, position_or_len}
 use Rattle.std.proofs.lemmas.List.{map-append, take-map, drop-map, length-map}
+use Rattle.std.proofs.lemmas.Bool.{eqb-true}
+use Rattle.vx_call.specs.declared.reply.Task.{Task}
+use Rattle.vx_call.specs.declared.reply.Task.TheVariants as tasks
+use Rattle.vx_call.specs.Items.{same_task}
+use Rattle.vx_call.proofs.Each.{Each, weaken}
+use Rattle.vx_call.proofs.Apart.{Apart}
 use Rattle.vx_core_bus.specs.Stores.{without_first}
 
 -- ## A part of each
@@ -25,53 +31,47 @@ position-map f p q agree xs =
     ap (λ n. cond (nat_lt n (length (map f xs))) (Some n) None) place
     ∙ ap (λ n. cond (nat_lt (position_or_len q xs) n) (Some (position_or_len q xs)) None) (length-map xs f)
 
--- ## A part of some
+-- ## The first that passes, where it is the only one
 
--- the test of the part, where there is one, is the test of the whole
-abbrev pub Matches : {B : Type 0} → (B → Bool) → Option B → Bool → Type 0
-Matches p None b = b ≡ false
-Matches p (Some y) b = p y ≡ b
+-- at most one passes: where one does, none behind it does
+abbrev pub PassesOnce : {A : Type 0} → (A → Bool) → List A → Type 0
+PassesOnce p [] = ⊤
+PassesOnce p (x ∷ xs) = (p x ≡ true → Each (λ y. p y ≡ false) xs) × PassesOnce p xs
 
--- an element is the first that passes the test
-pub record IsFirst {A : Type 0} (q : A → Bool) (xs : List A) (i : ℕ) (d : A) : Type 0 where
-  pub inside : i < length xs
-  pub here : q (get_or xs i d) ≡ true
-  pub before : (k : ℕ) → k < i → q (get_or xs k d) ≡ false
+none_left_out : {A : Type 0} (p : A → Bool) (xs : List A) → Each (λ y. p y ≡ false) xs → filter (λ y. not (p y)) xs ≡ xs
+none_left_out p [] none = refl
+none_left_out p (x ∷ xs) none = ap (λ b. cond (not b) (x ∷ filter (λ y. not (p y)) xs) (filter (λ y. not (p y)) xs)) none.0 ∙ ap (λ ys. x ∷ ys) (none_left_out p xs none.1)
 
-not_both : {C : Type 0} (b : Bool) → b ≡ false → b ≡ true → C
-not_both true h k = cc
-not_both false h k = cc
+-- without the first that passes, no other one is left out
+pub without_first-apart : {A : Type 0} (p : A → Bool) (xs : List A) → PassesOnce p xs → without_first p xs ≡ filter (λ y. not (p y)) xs
+without_first-apart p [] once = refl
+without_first-apart p (x ∷ xs) once =
+    elim (p x) as (λ b. (b ≡ true → Each (λ y. p y ≡ false) xs) → cond b xs (x ∷ without_first p xs) ≡ cond (not b) (x ∷ filter (λ y. not (p y)) xs) (filter (λ y. not (p y)) xs)) [
+      | true ↦ λ others. sym (none_left_out p xs (others refl))
+      | false ↦ λ others. ap (λ ys. x ∷ ys) (without_first-apart p xs once.1)
+    ] once.0
 
--- the part of the first that passes is the first that passes
-pub find-filter_map : {A B : Type 0} (g : A → Option B) (p : B → Bool) (q : A → Bool) → ((x : A) → Matches p (g x) (q x)) → (xs : List A) (i : ℕ) (d : A) → IsFirst q xs i d →
-    find p (filter_map g xs) ≡ g (get_or xs i d)
-find-filter_map g p q matches [] i d first = let inside = first.inside in absurd (omega arith)
-find-filter_map g p q matches (x ∷ xs) zero d first =
-    elim (g x) as (λ o. Matches p o (q x) → find p (cons_option o (filter_map g xs)) ≡ o) [
-      | None ↦ λ m. not_both (q x) m first.here
-      | Some y ↦ λ m. ap (λ b. cond b (Some y) (find p (filter_map g xs))) (m ∙ first.here)
-    ] (matches x)
-find-filter_map g p q matches (x ∷ xs) (suc i) d first =
-    let inside = first.inside in
-    let rest = find-filter_map g p q matches xs i d (record { inside = omega arith; here = first.here; before = λ k h. first.before (suc k) (omega arith) }) in
-    elim (g x) as (λ o. Matches p o (q x) → find p (cons_option o (filter_map g xs)) ≡ g (get_or xs i d)) [
-      | None ↦ λ m. rest
-      | Some y ↦ λ m. ap (λ b. cond b (Some y) (find p (filter_map g xs))) (m ∙ first.before 0 (omega arith)) ∙ rest
-    ] (matches x)
+both_true : (a b : Bool) → (a && b) ≡ true → (a ≡ true) × (b ≡ true)
+both_true true b h = (refl, h)
+both_true false b h = cc
 
--- without it, the parts are those of the others
-pub without_first-filter_map : {A B : Type 0} (g : A → Option B) (p : B → Bool) (q : A → Bool) → ((x : A) → Matches p (g x) (q x)) → (xs : List A) (i : ℕ) (d : A) → IsFirst q xs i d →
-    without_first p (filter_map g xs) ≡ filter_map g (remove xs i)
-without_first-filter_map g p q matches [] i d first = let inside = first.inside in absurd (omega arith)
-without_first-filter_map g p q matches (x ∷ xs) zero d first =
-    elim (g x) as (λ o. Matches p o (q x) → without_first p (cons_option o (filter_map g xs)) ≡ filter_map g xs) [
-      | None ↦ λ m. not_both (q x) m first.here
-      | Some y ↦ λ m. ap (λ b. cond b (filter_map g xs) (y ∷ without_first p (filter_map g xs))) (m ∙ first.here)
-    ] (matches x)
-without_first-filter_map g p q matches (x ∷ xs) (suc i) d first =
-    let inside = first.inside in
-    let rest = without_first-filter_map g p q matches xs i d (record { inside = omega arith; here = first.here; before = λ k h. first.before (suc k) (omega arith) }) in
-    elim (g x) as (λ o. Matches p o (q x) → without_first p (cons_option o (filter_map g xs)) ≡ cons_option o (filter_map g (remove xs i))) [
-      | None ↦ λ m. rest
-      | Some y ↦ λ m. ap (λ b. cond b (filter_map g xs) (y ∷ without_first p (filter_map g xs))) (m ∙ first.before 0 (omega arith)) ∙ ap (λ ys. y ∷ ys) rest
-    ] (matches x)
+-- a task that is the same as another is the same as the same ones
+same_task-same : (task first other : Task) → same_task task first ≡ true → same_task task other ≡ same_task first other
+same_task-same (tasks.Deliver consumer message) (tasks.Deliver first its) (tasks.Deliver other another) same =
+    let both = both_true (consumer.0.0 == first.0.0) (message.id.0.0 == its.id.0.0) same in
+    ap (λ n. (n == other.0.0) && (message.id.0.0 == another.id.0.0)) (eqb-true consumer.0.0 first.0.0 both.0)
+    ∙ ap (λ n. (first.0.0 == other.0.0) && (n == another.id.0.0)) (eqb-true message.id.0.0 its.id.0.0 both.1)
+same_task-same (tasks.Deliver consumer message) (tasks.Deliver first its) (tasks.Outcome request outcome) same = refl
+same_task-same (tasks.Deliver consumer message) (tasks.Outcome request outcome) other same = cc
+same_task-same (tasks.Outcome request outcome) (tasks.Deliver consumer message) other same = cc
+same_task-same (tasks.Outcome request outcome) (tasks.Outcome first its) (tasks.Deliver consumer message) same = refl
+same_task-same (tasks.Outcome request outcome) (tasks.Outcome first its) (tasks.Outcome other another) same =
+    ap (λ n. n == other.0.0) (eqb-true request.0.0 first.0.0 same)
+
+-- of tasks that are apart, at most one is the same as another
+pub alone : (task : Task) (tasks : List Task) → Apart same_task tasks → PassesOnce (same_task task) tasks
+alone task [] apart = tt
+alone task (first ∷ others) apart = (
+  λ same. weaken (λ other. same_task first other ≡ false) (λ other. same_task task other ≡ false) others (λ other differs. same_task-same task first other same ∙ differs) apart.0,
+  alone task others apart.1,
+)

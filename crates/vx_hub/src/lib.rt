@@ -6,8 +6,6 @@ mod hub;
 mod look;
 mod machine;
 mod rows;
-#[cfg(test)]
-mod tests;
 mod totals;
 
 pub use hub::Hub;

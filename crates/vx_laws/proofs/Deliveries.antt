@@ -7,6 +7,7 @@ use Rattle.vx_data.specs.declared.ids.MessageId.{MessageId}
 use Rattle.vx_data.specs.Tree.{Tree}
 use Rattle.vx_message.specs.declared.Lane.{Lane}
 use Rattle.vx_message.specs.declared.Message.{Message}
+use Rattle.vx_message.specs.declared.Options.{Options}
 use Rattle.vx_call.specs.declared.call.Call.{Call}
 use Rattle.vx_call.specs.declared.call.Call.TheVariants as calls
 use Rattle.vx_call.specs.declared.reply.Task.TheVariants as tasks
@@ -22,12 +23,12 @@ use Rattle.vx_laws.proofs.Origins.{Reaches, Origin, handed_origin}
 
 -- a call that reaches two consumers is a Publish
 abbrev IsPublish : Call → Type 0
-IsPublish call = (address : List ℕ) × (body : Tree) × (call ≡ calls.Publish address body)
+IsPublish call = (address : List ℕ) × (body : Tree) × (options : Options) × (call ≡ calls.Publish address body options)
 
 only_publish : (before : List Traced) (call : Call) (id other : ConsumerId) → id ≢ other → Reaches before call id → Reaches before call other → IsPublish call
-only_publish before (calls.Send address body) id other apart one two = absurd (apart cc)
-only_publish before (calls.Request context address body timeout) id other apart one two = absurd (apart cc)
-only_publish before (calls.Publish address body) id other apart one two = (address, body, refl)
+only_publish before (calls.Send address body options) id other apart one two = absurd (apart cc)
+only_publish before (calls.Request context address body options timeout) id other apart one two = absurd (apart cc)
+only_publish before (calls.Publish address body options) id other apart one two = (address, body, options, refl)
 only_publish before _ id other apart one two = absurd one
 
 published : (history : List Traced) (id other : ConsumerId) (message : MessageId) → id ≢ other → Origin history id message → Origin history other message → IsPublished history message
@@ -42,7 +43,8 @@ published history id other message apart one two =
       accepted = one.accepted;
       address = is_publish.0;
       body = is_publish.1;
-      called = is_publish.2;
+      options = is_publish.2;
+      called = is_publish.3;
     }
 
 different_consumers : (consumer other : ConsumerId) (message same : Message) → message.id ≡ same.id → same_task (tasks.Deliver consumer message) (tasks.Deliver other same) ≡ false → consumer ≢ other

@@ -1,4 +1,4 @@
--- An outcome that waits is the one with which its request ended.
+-- An outcome that was not taken is the one with which its request ended.
 use Rattle.std.proofs.Common.{◌≡◌, ℕ, List, [], ◌∷◌, ◌++◌, refl, ap, sym, ◌∙◌, subst, append_assoc}
 use Rattle.std.specs.Prelude.{true, false, cond, find, None, Some}
 use Rattle.std.specs.Option.{option_or}
@@ -15,16 +15,15 @@ use Rattle.vx_call.specs.declared.history.Traced.{Traced}
 use Rattle.vx_call.specs.History.{is_accepted, made_by, lasting}
 use Rattle.vx_call.specs.Requests.{Open}
 use Rattle.vx_call.specs.Settled.{Settled, settled_made, settled_kind, settled}
-use Rattle.vx_call.specs.Items.{item_kind, item_made, waiting, outcome_item}
+use Rattle.vx_call.specs.Items.{task_kind, task_made, untaken}
 use Rattle.vx_call.specs.Machine.{IsLegal}
 use Rattle.vx_call.proofs.Each.{Each, Each-both, weaken, accepted, by_entries, lasting_each}
 use Rattle.vx_call.proofs.Apart.{Apart}
-use Rattle.vx_call.proofs.Found.{find_front}
-use Rattle.vx_call.proofs.Opened.{same_number, each_settled, each_settled_by, is_settled_as, settled-append, next_unsettled, settled_open}
-use Rattle.vx_call.proofs.Waiting.{same_settled, settled_made_apart, each_item}
+use Rattle.vx_call.proofs.Found.{find_front, same_number}
+use Rattle.vx_call.proofs.Settlings.{each_settled, each_settled_by, same_settled, settled_made_apart, is_settled_as, settled-append, next_unsettled, settled_open}
+use Rattle.vx_call.proofs.Tasks.{each_task, outcome_task}
 use Rattle.vx_laws.specs.Outcomes.{HandsOutSettled}
-use Rattle.vx_laws.proofs.Splits.{Each-find}
-use Rattle.vx_laws.proofs.Handed.{Handed, handed}
+use Rattle.vx_laws.proofs.Handed.{Handed, handed, handed_task}
 
 -- the request ended with this outcome
 abbrev pub EndedWith : List Traced → MessageId → Outcome → Type 0
@@ -55,7 +54,7 @@ made_open history call =
     let IsOpen : Settled → Type 0 = λ s. settled history s.request ≡ None in
     each_settled IsOpen history call
     (each_settled_by (λ (request : Open). settled history request.id ≡ None) IsOpen history call (λ request outcome none. none) (settled_open history))
-    (λ context address body time is_call nobody. next_unsettled history)
+    (λ context address body options time is_call nobody. next_unsettled history)
 
 found_itself : (all : List Settled) → Apart same_settled all → Each (λ s. find (is_settled_as s.request) all ≡ Some s) all
 found_itself [] apart = tt
@@ -76,24 +75,24 @@ made_settled history new ok =
     (λ s none found. ap (find (is_settled_as s.request)) whole ∙ find-append (is_settled_as s.request) old made ∙ ap (λ o. option_or o (find (is_settled_as s.request) made)) none ∙ found)
     (made_open history new.entry.call) (found_itself made (settled_made_apart history new.entry.call))
 
-new_ended : (history : List Traced) (new : Traced) → is_accepted new.entry.reply ≡ true → Each (λ item. IsEnded (history ++ new ∷ []) item.task) (item_made history new.entry.call)
+new_ended : (history : List Traced) (new : Traced) → is_accepted new.entry.reply ≡ true → Each (IsEnded (history ++ new ∷ [])) (task_made history new.entry.call)
 new_ended history new ok =
     let after = history ++ new ∷ [] in
-    each_item (λ item. IsEnded after item.task) history new.entry.call (λ message place consumer is_next. tt)
-    (weaken (λ s. settled after s.request ≡ Some s) (λ s. (at : ℕ) → IsEnded after (outcome_item at s).task) (settled_made history new.entry.call) (λ s found at. (s, found, refl)) (made_settled history new ok))
+    let call = new.entry.call in
+    each_task (IsEnded after) history call (λ message consumer is_message is_live. tt)
+    (weaken (λ s. settled after s.request ≡ Some s) (λ s. IsEnded after (outcome_task s)) (settled_made history call) (λ s found. (s, found, refl)) (made_settled history new ok))
 
-waiting_ended : (history : List Traced) → Each (λ item. IsEnded history item.task) (waiting history)
-waiting_ended =
-    lasting_each item_kind (λ history item. IsEnded history item.task) (λ history new item stays ended. keeps_ended history new item.task ended)
-    (λ history new. accepted (λ item. IsEnded (history ++ new ∷ []) item.task) (is_accepted new.entry.reply) (item_made history new.entry.call) (new_ended history new))
+untaken_ended : (history : List Traced) → Each (IsEnded history) (untaken history)
+untaken_ended =
+    lasting_each task_kind IsEnded (λ history new task stays ended. keeps_ended history new task ended)
+    (λ history new. accepted (IsEnded (history ++ new ∷ [])) (is_accepted new.entry.reply) (task_made history new.entry.call) (new_ended history new))
 
 -- ## What is handed out
 
 handed_ended : (history : List Traced) (i : ℕ) (lane : Lane) (request : MessageId) (outcome : Outcome) → Handed history i lane (tasks.Outcome request outcome) → EndedWith history request outcome
 handed_ended history i lane request outcome take =
     let before : List Traced = take.before in
-    let then : IsEnded before (tasks.Outcome request outcome) =
-    subst (λ (t : Task). IsEnded before t) take.is_task (Each-find (λ item. IsEnded before item.task) _ (waiting before) take.item (waiting_ended before) take.found) in
+    let then : IsEnded before (tasks.Outcome request outcome) = handed_task (IsEnded before) history i lane (tasks.Outcome request outcome) take (untaken_ended before) in
     (then.0, ap (λ (h : List Traced). settled h request) take.parts ∙ settled_on before (take.new ∷ take.after) request then.0 then.1, then.2)
 
 pub as_settled : (history : List Traced) → IsLegal history → HandsOutSettled history

@@ -1,4 +1,4 @@
--- What a Take hands out does not wait any more, and no other Take hands it out.
+-- What a Take hands out is not there any more, and no other Take hands it out.
 use Rattle.std.proofs.Common.{◌≡◌, ℕ, ◌<◌, List, [], ◌∷◌, ◌++◌, length, ap, sym, ◌∙◌, subst, append_assoc, arith}
 use Rattle.std.specs.Prelude.{false, not, ◌&&◌, filter}
 use Rattle.std.proofs.Common.{inl, inr}
@@ -9,42 +9,38 @@ use Rattle.vx_call.specs.declared.reply.Reply.TheVariants as replies
 use Rattle.vx_call.specs.declared.reply.Task.{Task}
 use Rattle.vx_call.specs.declared.history.Traced.{Traced}
 use Rattle.vx_call.specs.History.{is_accepted, made_by, ended_by}
-use Rattle.vx_call.specs.Items.{Waiting, item_kind, item_made, item_ended, waiting, same_task}
+use Rattle.vx_call.specs.Items.{task_kind, task_made, task_ended, untaken, same_task}
 use Rattle.vx_call.specs.Machine.{IsLegal}
 use Rattle.vx_call.proofs.Lasting.{lasting-append}
 use Rattle.vx_call.proofs.Each.{Each, Each-append, Each-filter, weaken, accepted, by_entries}
-use Rattle.vx_call.proofs.Waiting.{IsKnown, IsFresh, different, keeps_known, new_fresh, waiting_known, same_task-swap}
+use Rattle.vx_call.proofs.Tasks.{IsOtherTask, IsKnown, IsFresh, different, keeps_known, new_fresh, untaken_known, same_task-swap}
 use Rattle.vx_laws.specs.Entries.{TakesAt}
-use Rattle.vx_laws.proofs.Splits.{later_cut, Each-find, Each-any}
-use Rattle.vx_laws.proofs.Handed.{Handed, handed}
+use Rattle.vx_laws.proofs.Splits.{later_cut, Each-any}
+use Rattle.vx_laws.proofs.Handed.{Handed, handed, handed_task}
 
--- the item is of another task
-abbrev pub IsApart : Task → Waiting → Type 0
-IsApart task item = same_task task item.task ≡ false
-
--- the task was there, and waits no more
+-- the task was made before, and is there no more
 pub record IsGone (history : List Traced) (task : Task) : Type 0 where
   pub known : IsKnown history task
-  pub gone : Each (IsApart task) (waiting history)
+  pub gone : Each (IsOtherTask task) (untaken history)
 
--- what an entry makes ready is none of the tasks that were there
-new_apart : (history : List Traced) (new : Traced) (task : Task) → IsKnown history task → Each (IsApart task) (made_by item_kind history new)
+-- what an entry makes is none of the tasks that were there
+new_apart : (history : List Traced) (new : Traced) (task : Task) → IsKnown history task → Each (IsOtherTask task) (made_by task_kind history new)
 new_apart history new task known =
-    weaken (λ item. IsFresh history item.task) (IsApart task) (made_by item_kind history new) (λ item fresh. different history task item.task known fresh)
-    (accepted (λ item. IsFresh history item.task) (is_accepted new.entry.reply) (item_made history new.entry.call) (λ ok. new_fresh history new.entry.call))
+    weaken (IsFresh history) (IsOtherTask task) (made_by task_kind history new) (λ other fresh. different history task other known fresh)
+    (accepted (IsFresh history) (is_accepted new.entry.reply) (task_made history new.entry.call) (λ ok. new_fresh history new.entry.call))
 
 after_entry : (history : List Traced) (new : Traced) (task : Task) → IsKnown history task →
-    Each (IsApart task) (filter (λ item. not (ended_by item_kind history new item)) (waiting history)) → IsGone (history ++ new ∷ []) task
+    Each (IsOtherTask task) (filter (λ other. not (ended_by task_kind history new other)) (untaken history)) → IsGone (history ++ new ∷ []) task
 after_entry history new task known left =
-    let P : List Waiting → Type 0 = Each (IsApart task) in
+    let P : List Task → Type 0 = Each (IsOtherTask task) in
     record {
       known = keeps_known history new task known;
-      gone = subst P (sym (lasting-append item_kind history new)) (Each-append (IsApart task) _ _ left (new_apart history new task known));
+      gone = subst P (sym (lasting-append task_kind history new)) (Each-append (IsOtherTask task) _ _ left (new_apart history new task known));
     }
 
 still_gone : (history : List Traced) (new : Traced) (task : Task) → IsGone history task → IsGone (history ++ new ∷ []) task
 still_gone history new task gone =
-    after_entry history new task gone.known (Each-filter (IsApart task) (IsApart task) _ (waiting history) (λ item stays apart. apart) gone.gone)
+    after_entry history new task gone.known (Each-filter (IsOtherTask task) (IsOtherTask task) _ (untaken history) (λ other stays apart. apart) gone.gone)
 
 -- what is gone stays gone
 pub gone_on : (history after : List Traced) (task : Task) → IsGone history task → IsGone (history ++ after) task
@@ -53,21 +49,16 @@ gone_on history after task gone =
     by_entries (λ later. IsGone (history ++ later) task) (subst P (sym (append-nil history)) gone)
     (λ later new before. subst P (append_assoc history later (new ∷ [])) (still_gone (history ++ later) new task before)) after
 
--- the task that a Take hands out was there
-pub was_known : (history : List Traced) (i : ℕ) (lane : Lane) (task : Task) (take : Handed history i lane task) → IsKnown take.before task
-was_known history i lane task take =
-    subst (λ (t : Task). IsKnown take.before t) take.is_task (Each-find (λ item. IsKnown take.before item.task) _ (waiting take.before) take.item (waiting_known take.before) take.found)
-
--- and goes
+-- the task that a Take hands out was there, and goes
 pub handed_gone : (history : List Traced) (i : ℕ) (lane : Lane) (task : Task) (take : Handed history i lane task) → IsGone (take.before ++ take.new ∷ []) task
 handed_gone history i lane task take =
     let before : List Traced = take.before in
     let new : Traced = take.new in
-    let ends : (item : Waiting) → ended_by item_kind before new item ≡ same_task task item.task =
-    λ item. ap (λ reply. is_accepted reply && item_ended before new.entry.call reply item.task) take.replied ∙ ap (λ call. item_ended before call (replies.Task task) item.task) take.called in
-    after_entry before new task (was_known history i lane task take)
-    (Each-filter (λ item. Unit {0}) (IsApart task) (λ item. not (ended_by item_kind before new item)) (waiting before)
-    (λ item stays here. sym (ends item) ∙ not-true (ended_by item_kind before new item) stays) (Each-any (λ item. Unit {0}) (waiting before) (λ item. tt)))
+    let ends : (other : Task) → ended_by task_kind before new other ≡ same_task task other =
+    λ other. ap (λ reply. is_accepted reply && task_ended before new.entry.call reply other) take.replied ∙ ap (λ call. task_ended before call (replies.Task task) other) take.called in
+    after_entry before new task (handed_task (IsKnown before) history i lane task take (untaken_known before))
+    (Each-filter (λ other. Unit {0}) (IsOtherTask task) (λ other. not (ended_by task_kind before new other)) (untaken before)
+    (λ other stays here. sym (ends other) ∙ not-true (ended_by task_kind before new other) stays) (Each-any (λ other. Unit {0}) (untaken before) (λ other. tt)))
 
 earlier_apart : (history : List Traced) (i j : ℕ) (lane other_lane : Lane) (task other : Task) → Handed history i lane task → Handed history j other_lane other → i < j → same_task task other ≡ false
 earlier_apart history i j lane other_lane task other first second lt =
@@ -76,7 +67,7 @@ earlier_apart history i j lane other_lane task other first second lt =
     let P : List Traced → Type 0 = λ h. IsGone h task in
     let gone : IsGone second.before task =
     subst P (append_assoc first.before (first.new ∷ []) cut.0 ∙ sym cut.1) (gone_on (first.before ++ first.new ∷ []) cut.0 task (handed_gone history i lane task first)) in
-    ap (same_task task) (sym second.is_task) ∙ Each-find (IsApart task) _ (waiting second.before) second.item gone.gone second.found
+    handed_task (IsOtherTask task) history j other_lane other second gone.gone
 
 -- two Takes hand out different tasks
 pub takes_apart : (history : List Traced) (i j : ℕ) (lane other_lane : Lane) (task other : Task) → IsLegal history → TakesAt history i lane task → TakesAt history j other_lane other → (i ≡ j → ⊥) →

@@ -1,6 +1,6 @@
 -- What a Take hands out had waited.
-use Rattle.std.proofs.Common.{◌≡◌, ℕ, List, ◌∷◌, ◌++◌, length, refl, ap, sym, ◌∙◌}
-use Rattle.std.specs.Prelude.{Option, None, Some}
+use Rattle.std.proofs.Common.{◌≡◌, ℕ, List, ◌∷◌, ◌++◌, length, refl, ap, sym, ◌∙◌, subst}
+use Rattle.std.specs.Prelude.{find, Option, None, Some}
 use Rattle.vx_data.specs.declared.ids.PassNo.{PassNo}
 use Rattle.vx_message.specs.declared.Lane.{Lane}
 use Rattle.vx_call.specs.declared.call.Call.TheVariants as calls
@@ -9,11 +9,13 @@ use Rattle.vx_call.specs.declared.reply.Reply.{Reply}
 use Rattle.vx_call.specs.declared.reply.Reply.TheVariants as replies
 use Rattle.vx_call.specs.declared.reply.Task.{Task}
 use Rattle.vx_call.specs.declared.history.Traced.{Traced}
-use Rattle.vx_call.specs.Items.{Waiting}
+use Rattle.vx_call.specs.Items.{Waiting, same_task, untaken, waiting}
 use Rattle.vx_call.specs.Next.{next}
 use Rattle.vx_call.specs.Refusals.{unless_refused, spent}
 use Rattle.vx_call.specs.Rows.{take_refusal, handed_out}
 use Rattle.vx_call.specs.Machine.{IsLegal, answer}
+use Rattle.vx_call.proofs.Each.{Each, Each-find, weaken}
+use Rattle.vx_call.proofs.Waiting.{waiting_untaken}
 use Rattle.vx_laws.specs.Entries.{TakesAt}
 use Rattle.vx_laws.proofs.Splits.{Split, split_at}
 
@@ -62,3 +64,17 @@ handed history i lane task legal takes =
       found = found.1;
       is_task = found.2;
     }
+
+-- what holds of each task that was not taken holds of each that waits
+each_waiting : (P : Task → Type 0) (history : List Traced) → Each P (untaken history) → Each (λ item. P item.task) (waiting history)
+each_waiting P history each =
+    weaken (λ item. find (same_task item.task) (untaken history) ≡ Some item.task) (λ item. P item.task) (waiting history)
+    (λ item found. Each-find P (same_task item.task) (untaken history) item.task each found) (waiting_untaken history)
+
+-- ... and of the next one of a lane
+pub next_task : (P : Task → Type 0) (history : List Traced) (lane : Lane) (item : Waiting) → next history lane ≡ Some item → Each P (untaken history) → P item.task
+next_task P history lane item found each = Each-find (λ item. P item.task) _ (waiting history) item (each_waiting P history each) found
+
+-- ... and so of one that is handed out
+pub handed_task : (P : Task → Type 0) (history : List Traced) (i : ℕ) (lane : Lane) (task : Task) (take : Handed history i lane task) → Each P (untaken take.before) → P task
+handed_task P history i lane task take each = subst P take.is_task (next_task P take.before lane take.item take.found each)

@@ -1,6 +1,7 @@
 pub mod Splits
 pub mod Handed
 pub mod Gone
+pub mod Made
 pub mod Origins
 pub mod Deliveries
 pub mod Outcomes
@@ -12,4 +13,9 @@ pub mod Unheard
 pub mod Requests
 pub mod Rounds
 pub mod Chosen
+pub mod Named
 pub mod Turns
+pub mod Rising
+pub mod Live
+pub mod Accepted
+pub mod Order

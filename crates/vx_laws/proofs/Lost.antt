@@ -1,13 +1,13 @@
 -- Requests whose message had one receiver, which is gone.
 use Rattle.std.proofs.Common.{◌≡◌, ℕ, ◌<◌, List, [], ◌∷◌, ◌++◌, length, refl, ap, sym, ◌∙◌, subst, append_assoc, arith, inl, inr}
-use Rattle.std.specs.Prelude.{◌≢◌, true, false, not, ◌&&◌, is_some, Option, None, Some}
-use Rattle.std.specs.Option.{option_map, option_to_list}
+use Rattle.std.specs.Prelude.{◌≢◌, true, false, not, ◌&&◌, is_some, None, Some}
 use Rattle.std.proofs.lemmas.Bool.{and_parts, not-true}
 use Rattle.std.proofs.lemmas.List.{length_push}
 use Rattle.vx_data.specs.declared.ids.ConsumerId.{ConsumerId}
 use Rattle.vx_data.specs.declared.ids.ContextId.{ContextId}
 use Rattle.vx_data.specs.declared.ids.MessageId.{MessageId}
 use Rattle.vx_data.specs.Tree.{Tree}
+use Rattle.vx_message.specs.declared.Options.{Options}
 use Rattle.vx_call.specs.declared.call.Call.{Call}
 use Rattle.vx_call.specs.declared.call.Call.TheVariants as calls
 use Rattle.vx_call.specs.declared.reply.Task.{Task}
@@ -16,16 +16,16 @@ use Rattle.vx_call.specs.declared.history.Consumer.{Consumer}
 use Rattle.vx_call.specs.declared.history.Traced.{Traced}
 use Rattle.vx_call.specs.History.{is_accepted, ended_by}
 use Rattle.vx_data.specs.Ids.{same_consumer}
-use Rattle.vx_call.specs.Choices.{choice}
+use Rattle.vx_call.specs.Mailboxes.{accepting}
 use Rattle.vx_call.specs.Given.{is_given}
 use Rattle.vx_call.specs.Requests.{Open, opened, open_made, open_kind, unsettled, is_lost_with}
-use Rattle.vx_call.specs.Items.{item_kind, item_ended, waiting}
-use Rattle.vx_call.proofs.Each.{Each, Each-filter, accepted, lasting_each}
+use Rattle.vx_call.specs.Items.{task_kind, task_ended, untaken}
+use Rattle.vx_call.proofs.Each.{Each, Each-map, Each-filter, weaken, accepted, lasting_each}
 use Rattle.vx_call.proofs.Opened.{open_key}
 use Rattle.vx_laws.proofs.Splits.{same_cut}
-use Rattle.vx_laws.proofs.Origins.{id_of, IsChosen, Reaches, Origin, HasOrigin, waiting_origins}
+use Rattle.vx_laws.proofs.Origins.{IsChosen, Reaches, Origin, HasOrigin, accepting_reached, untaken_origins}
 use Rattle.vx_laws.proofs.Taken.{takes_push, taken_given}
-use Rattle.vx_laws.proofs.Nobody.{IsOtherMessage, NobodyGets, new_other, wait_after}
+use Rattle.vx_laws.proofs.Nobody.{IsOtherMessage, NobodyGets, new_other, left_after}
 
 -- the message was made by a Request, which chose this consumer
 pub record AskedOf (history : List Traced) (request : MessageId) (receiver : ConsumerId) : Type 0 where
@@ -37,8 +37,9 @@ pub record AskedOf (history : List Traced) (request : MessageId) (receiver : Con
   pub context : ContextId
   pub address : List ℕ
   pub body : Tree
+  pub options : Options
   pub time : ℕ
-  pub called : new.entry.call ≡ calls.Request context address body time
+  pub called : new.entry.call ≡ calls.Request context address body options time
   pub chosen : IsChosen before address receiver
 
 abbrev pub IsAskedOf : List Traced → Open → Type 0
@@ -54,34 +55,36 @@ keeps_asked history new request receiver asked = record {
   context = asked.context;
   address = asked.address;
   body = asked.body;
+  options = asked.options;
   time = asked.time;
   called = asked.called;
   chosen = asked.chosen;
 }
 
-asked_choice : (history : List Traced) (new : Traced) (context : ContextId) (address : List ℕ) (body : Tree) (time : ℕ) (chosen : Option Consumer) →
-    new.entry.call ≡ calls.Request context address body time → choice history address ≡ chosen → Each (IsAskedOf (history ++ new ∷ [])) (option_to_list (option_map (opened history context time) chosen))
-asked_choice history new context address body time None is_call is_chosen = tt
-asked_choice history new context address body time (Some consumer) is_call is_chosen = (
-  λ receiver is. record {
-    before = history;
-    new = new;
-    after = [];
-    parts = refl;
-    at = refl;
-    context = context;
-    address = address;
-    body = body;
-    time = time;
-    called = is_call;
-    chosen = ap (option_map id_of) is_chosen ∙ is;
-  },
-  tt,
-)
+asked_of : (history : List Traced) (new : Traced) (context : ContextId) (address : List ℕ) (body : Tree) (options : Options) (time : ℕ) →
+    new.entry.call ≡ calls.Request context address body options time → (consumer : Consumer) → IsChosen history address consumer.id → IsAskedOf (history ++ new ∷ []) (opened history context time consumer)
+asked_of history new context address body options time is_call consumer chosen receiver is = record {
+  before = history;
+  new = new;
+  after = [];
+  parts = refl;
+  at = refl;
+  context = context;
+  address = address;
+  body = body;
+  options = options;
+  time = time;
+  called = is_call;
+  chosen = chosen ∙ is;
+}
 
 new_asked : (history : List Traced) (new : Traced) (call : Call) → new.entry.call ≡ call → Each (IsAskedOf (history ++ new ∷ [])) (open_made history call)
-new_asked history new (calls.Request context address body time) is_call = asked_choice history new context address body time (choice history address) is_call refl
-new_asked history new (calls.ReplyRequest message context body time) is_call = (λ receiver is. absurd cc, tt)
+new_asked history new (calls.Request context address body options time) is_call =
+    let call = calls.Request context address body options time in
+    Each-map (IsAskedOf (history ++ new ∷ [])) (opened history context time) (accepting history call)
+    (weaken (λ consumer. IsChosen history address consumer.id) (λ consumer. IsAskedOf (history ++ new ∷ []) (opened history context time consumer)) (accepting history call)
+    (asked_of history new context address body options time is_call) (accepting_reached history call))
+new_asked history new (calls.ReplyRequest message context body options time) is_call = (λ receiver is. absurd cc, tt)
 new_asked history new _ is_call = tt
 
 pub open_asked : (history : List Traced) → Each (IsAskedOf history) (unsettled history)
@@ -93,7 +96,7 @@ open_asked =
 one_receiver : (history : List Traced) (request : MessageId) (receiver consumer : ConsumerId) → AskedOf history request receiver → Origin history consumer request → consumer ≡ receiver
 one_receiver history request receiver consumer asked origin =
     let cut = same_cut origin.before origin.after origin.new asked.before asked.after asked.new (sym origin.parts ∙ asked.parts) (origin.at ∙ sym asked.at) in
-    let call = calls.Request asked.context asked.address asked.body asked.time in
+    let call = calls.Request asked.context asked.address asked.body asked.options asked.time in
     let is_call : origin.new.entry.call ≡ call = ap (λ (t : Traced). t.entry.call) cut.items ∙ asked.called in
     let mine : IsChosen origin.before asked.address consumer = subst (λ (c : Call). Reaches origin.before c consumer) is_call origin.reaches in
     let now : IsChosen asked.before asked.address consumer = subst (λ (b : List Traced). IsChosen b asked.address consumer) cut.fronts mine in
@@ -101,16 +104,16 @@ one_receiver history request receiver consumer asked origin =
     let same : Some consumer ≡ Some receiver = sym now ∙ its in
     cc
 
--- what waits for the consumer goes with it
+-- what is there for the consumer goes with it
 other_stays : (history : List Traced) (new : Traced) (id : ConsumerId) (request : MessageId) (receiver : ConsumerId) (task : Task) →
     is_accepted new.entry.reply ≡ true → new.entry.call ≡ calls.Unregister id → same_consumer id receiver ≡ true → AskedOf history request receiver →
-    HasOrigin history task → (is_accepted new.entry.reply && item_ended history new.entry.call new.entry.reply task) ≡ false → IsOtherMessage request task
+    HasOrigin history task → (is_accepted new.entry.reply && task_ended history new.entry.call new.entry.reply task) ≡ false → IsOtherMessage request task
 other_stays history new id request receiver (tasks.Deliver consumer message) ok is_call named asked origin stays = λ same.
     (let receives : consumer ≡ receiver = one_receiver history request receiver consumer asked (subst (λ (m : MessageId). Origin history consumer m) same origin) in
     let gone : same_consumer id consumer ≡ true = ap (same_consumer id) receives ∙ named in
     let task = tasks.Deliver consumer message in
-    let ended : (is_accepted new.entry.reply && item_ended history new.entry.call new.entry.reply task) ≡ true =
-    ap (λ b. b && item_ended history new.entry.call new.entry.reply task) ok ∙ ap (λ call. item_ended history call new.entry.reply task) is_call ∙ gone in
+    let ended : (is_accepted new.entry.reply && task_ended history new.entry.call new.entry.reply task) ≡ true =
+    ap (λ b. b && task_ended history new.entry.call new.entry.reply task) ok ∙ ap (λ call. task_ended history call new.entry.reply task) is_call ∙ gone in
     cc)
 other_stays history new id request receiver (tasks.Outcome other outcome) ok is_call named asked origin stays = tt
 
@@ -139,11 +142,11 @@ nobody_left history new id request ok is_call before from is_lost =
     let asked = from is_lost.receiver is_lost.is_receiver in
     record {
       earlier = (let longer = length_push history new in omega arith);
-      waits =
-          wait_after history new request.id
-          (Each-filter (λ item. HasOrigin history item.task) (λ item. IsOtherMessage request.id item.task) (λ item. not (ended_by item_kind history new item)) (waiting history)
-          (λ item stays origin. other_stays history new id request.id is_lost.receiver item.task ok is_call is_lost.named asked origin (not-true (ended_by item_kind history new item) stays))
-          (waiting_origins history))
+      left =
+          left_after history new request.id
+          (Each-filter (HasOrigin history) (IsOtherMessage request.id) (λ task. not (ended_by task_kind history new task)) (untaken history)
+          (λ task stays origin. other_stays history new id request.id is_lost.receiver task ok is_call is_lost.named asked origin (not-true (ended_by task_kind history new task) stays))
+          (untaken_origins history))
           (new_other history new request.id before);
       taken = λ i lane consumer message takes.
           elim (takes_push history new i lane (tasks.Deliver consumer message) takes) as (λ _. message.id ≢ request.id) [

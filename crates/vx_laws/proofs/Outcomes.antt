@@ -16,12 +16,12 @@ use Rattle.vx_call.specs.Items.{Waiting, waiting}
 use Rattle.vx_call.specs.Held.{runs}
 use Rattle.vx_call.specs.Next.{is_on}
 use Rattle.vx_call.specs.Machine.{IsLegal}
-use Rattle.vx_call.proofs.Each.{by_entries}
+use Rattle.vx_call.proofs.Each.{Each-find, by_entries}
+use Rattle.vx_call.proofs.Found.{find_passes}
 use Rattle.vx_call.proofs.Opened.{keeps_asker}
 use Rattle.vx_call.proofs.Owners.{waiting_owned}
 use Rattle.vx_laws.specs.Entries.{TakesAt}
 use Rattle.vx_laws.specs.Outcomes.{HandsOutOnce, HandsToAsker}
-use Rattle.vx_laws.proofs.Splits.{find_passes, Each-find}
 use Rattle.vx_laws.proofs.Handed.{Handed, handed}
 use Rattle.vx_laws.proofs.Gone.{takes_apart}
 

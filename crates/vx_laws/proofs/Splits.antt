@@ -1,6 +1,6 @@
 -- Lists and legal histories, cut at an index.
-use Rattle.std.proofs.Common.{◌≡◌, ℕ, ◌<◌, zero, suc, List, [], ◌∷◌, ◌++◌, length, refl, ap, ◌∙◌, subst, append_assoc, arith}
-use Rattle.std.specs.Prelude.{Bool, true, false, cond, find, slice_get, Some}
+use Rattle.std.proofs.Common.{◌≡◌, ℕ, ◌<◌, zero, suc, List, [], ◌∷◌, ◌++◌, length, refl, ap, ◌∙◌, append_assoc, arith}
+use Rattle.std.specs.Prelude.{slice_get, Some}
 use Rattle.vx_call.specs.declared.history.Traced.{Traced}
 use Rattle.vx_call.specs.Machine.{IsLegal}
 use Rattle.vx_call.proofs.Each.{Each}
@@ -22,6 +22,11 @@ split_at {A} (y ∷ xs) (suc i) x h =
 pub slice_get-at : {A : Type 0} (before after : List A) (x : A) → slice_get (before ++ x ∷ after) (length before) ≡ Some x
 slice_get-at [] after x = refl
 slice_get-at (y ∷ before) after x = slice_get-at before after x
+
+pub slice_get-front : {A : Type 0} (xs ys : List A) (i : ℕ) (x : A) → slice_get xs i ≡ Some x → slice_get (xs ++ ys) i ≡ Some x
+slice_get-front [] ys i x h = cc
+slice_get-front (y ∷ xs) ys zero x h = h
+slice_get-front (y ∷ xs) ys (suc i) x h = slice_get-front xs ys i x h
 
 -- of two cuts of one list, the later is behind the earlier
 pub later_cut : {A : Type 0} (before after : List A) (x : A) (other rest : List A) (y : A) → before ++ x ∷ after ≡ other ++ y ∷ rest → length before < length other →
@@ -53,25 +58,6 @@ same_cut {A} (z ∷ before) after x (w ∷ other) rest y same at =
 -- what a legal history begins with is legal
 pub legal_front : (history after : List Traced) → IsLegal (history ++ after) → IsLegal history
 legal_front history after legal = λ before new rest split. legal before new (rest ++ after) (ap (λ (h : List Traced). h ++ after) split ∙ append_assoc before (new ∷ rest) after)
-
--- ## What is found
-
-pub find_passes : {X : Type 0} (p : X → Bool) (xs : List X) (x : X) → find p xs ≡ Some x → p x ≡ true
-find_passes p [] x h = cc
-find_passes {X} p (y ∷ xs) x h =
-    elim (p y) as (λ b. p y ≡ b → cond b (Some y) (find p xs) ≡ Some x → p x ≡ true) [
-      | true ↦ λ passes found. (let e : y ≡ x = cc in subst (λ (z : X). p z ≡ true) e passes)
-      | false ↦ λ fails found. find_passes p xs x found
-    ] refl h
-
--- what holds of each holds of what is found
-pub Each-find : {X : Type 0} (P : X → Type 0) (p : X → Bool) (xs : List X) (x : X) → Each P xs → find p xs ≡ Some x → P x
-Each-find P p [] x each h = cc
-Each-find {X} P p (y ∷ xs) x each h =
-    elim (p y) as (λ b. cond b (Some y) (find p xs) ≡ Some x → P x) [
-      | true ↦ λ found. (let e : y ≡ x = cc in subst P e each.0)
-      | false ↦ λ found. Each-find P p xs x each.1 found
-    ] h
 
 -- what holds of any
 pub Each-any : {X : Type 0} (P : X → Type 0) (xs : List X) → ((x : X) → P x) → Each P xs

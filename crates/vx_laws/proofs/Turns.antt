@@ -18,13 +18,13 @@ use Rattle.vx_call.specs.Rows.{ids_of}
 use Rattle.vx_call.specs.Machine.{IsLegal}
 use Rattle.vx_call.proofs.Each.{Each, Each-at, Each-both}
 use Rattle.vx_call.proofs.Apart.{Apart}
-use Rattle.vx_call.proofs.Opened.{same_number}
-use Rattle.vx_call.proofs.Waiting.{same_by_name, handlers_apart}
-use Rattle.vx_laws.specs.Turns.{receiver_at, receivers, HaveHandlers, IsRound, TakesTurns}
-use Rattle.vx_laws.proofs.Splits.{legal_front}
+use Rattle.vx_call.proofs.Found.{same_number}
+use Rattle.vx_call.proofs.Consumers.{same_by_name, handlers_apart}
+use Rattle.vx_laws.specs.Turns.{chosen_by, chosen_behind, HaveHandlers, IsRound, ChoosesInTurn, TakesTurns}
 use Rattle.vx_laws.proofs.Origins.{id_of}
 use Rattle.vx_laws.proofs.Rounds.{turns, turns-add, turns_round}
-use Rattle.vx_laws.proofs.Chosen.{choices_more, call_in_turn}
+use Rattle.vx_laws.proofs.Chosen.{choices_more, chosen_in_turn}
+use Rattle.vx_laws.proofs.Named.{names_chosen}
 
 -- ## A run of entries
 
@@ -38,11 +38,12 @@ handlers_rest before new rest address live have = λ first other after split.
 -- the turns of an entry, then those of the entries behind it, whose count goes on where there are any
 turns_join : (ids here : List ConsumerId) (address : List ℕ) (before : List Traced) (new : Traced) (first : Consumer) (others : List Consumer) (rest : List Traced) →
     here ≡ turns ids (choices before address) (length here) → count_by (bytes_eq address) (made_by choice_kind before new) ≡ length here →
-    HaveHandlers (before ++ new ∷ []) rest address (first ∷ others) → receivers address rest ≡ turns ids (choices (before ++ new ∷ []) address) (length (receivers address rest)) →
-    here ++ receivers address rest ≡ turns ids (choices before address) (length (here ++ receivers address rest))
+    HaveHandlers (before ++ new ∷ []) rest address (first ∷ others) →
+    chosen_behind (before ++ new ∷ []) rest address ≡ turns ids (choices (before ++ new ∷ []) address) (length (chosen_behind (before ++ new ∷ []) rest address)) →
+    here ++ chosen_behind (before ++ new ∷ []) rest address ≡ turns ids (choices before address) (length (here ++ chosen_behind (before ++ new ∷ []) rest address))
 turns_join ids here address before new first others [] its counted have after = append-nil here ∙ its ∙ ap (λ (l : List ConsumerId). turns ids (choices before address) (length l)) (sym (append-nil here))
 turns_join ids here address before new first others (next ∷ rest) its counted have after =
-    let behind = receivers address (next ∷ rest) in
+    let behind = chosen_behind (before ++ new ∷ []) (next ∷ rest) address in
     let count = choices before address in
     let some : is_empty (handlers (before ++ new ∷ []) address) ≡ false = ap (λ (cs : List Consumer). is_empty cs) (handlers_first (before ++ new ∷ []) next rest address (first ∷ others) have) in
     let goes_on : choices (before ++ new ∷ []) address ≡ count + length here = choices_more before new address some ∙ ap (λ n. count + n) counted in
@@ -51,16 +52,15 @@ turns_join ids here address before new first others (next ∷ rest) its counted 
     ∙ sym (turns-add ids count (length here) (length behind))
     ∙ ap (turns ids count) (sym (length-append here behind))
 
--- in a run of entries with the same handlers they are reached in turn
-in_turns : (before during : List Traced) (address : List ℕ) (first : Consumer) (others : List Consumer) → IsLegal (before ++ during) → HaveHandlers before during address (first ∷ others) →
-    receivers address during ≡ turns (ids_of (first ∷ others)) (choices before address) (length (receivers address during))
-in_turns before [] address first others legal have = refl
-in_turns before (new ∷ rest) address first others legal have =
+-- in a run of entries with the same handlers they are chosen in turn
+in_turns : (before during : List Traced) (address : List ℕ) (first : Consumer) (others : List Consumer) → HaveHandlers before during address (first ∷ others) →
+    chosen_behind before during address ≡ turns (ids_of (first ∷ others)) (choices before address) (length (chosen_behind before during address))
+in_turns before [] address first others have = refl
+in_turns before (new ∷ rest) address first others have =
     let live = first ∷ others in
-    let is = call_in_turn before new.entry.pass new.entry.call new.entry.reply address first others (legal before new rest refl).answered (handlers_first before new rest address live have) in
+    let is = chosen_in_turn before new address first others (handlers_first before new rest address live have) in
     let onward = handlers_rest before new rest address live have in
-    turns_join (ids_of live) (receiver_at address new.entry.call new.entry.reply) address before new first others rest is.in_turn is.counted onward
-    (in_turns (before ++ new ∷ []) rest address first others (subst IsLegal (sym (append_assoc before (new ∷ []) rest)) legal) onward)
+    turns_join (ids_of live) (chosen_by before new address) address before new first others rest is.in_turn is.counted onward (in_turns (before ++ new ∷ []) rest address first others onward)
 
 -- ## Each once
 
@@ -98,18 +98,18 @@ take_none (suc n) = refl
 
 -- ## A round
 
-no_round : (count : ℕ) (reached : List ConsumerId) → reached ≡ [] → IsRound count [] reached
-no_round count reached none = record { in_order = none ∙ sym (ap (λ (l : List ConsumerId). l ++ take (count % 0) []) (drop-nil (count % 0)) ∙ take_none (count % 0)); once = λ k d inside. absurd (omega arith) }
+no_round : (count : ℕ) (chosen : List ConsumerId) → chosen ≡ [] → IsRound count [] chosen
+no_round count chosen none = record { in_order = none ∙ sym (ap (λ (l : List ConsumerId). l ++ take (count % 0) []) (drop-nil (count % 0)) ∙ take_none (count % 0)); once = λ k d inside. absurd (omega arith) }
 
-round : (count : ℕ) (first : Consumer) (others : List Consumer) (reached : List ConsumerId) → Apart same_by_name (first ∷ others) → reached ≡ turns (ids_of (first ∷ others)) count (length reached) →
-    length reached ≡ length (first ∷ others) → IsRound count (first ∷ others) reached
-round count first others reached apart in_turn full =
+round : (count : ℕ) (first : Consumer) (others : List Consumer) (chosen : List ConsumerId) → Apart same_by_name (first ∷ others) → chosen ≡ turns (ids_of (first ∷ others)) count (length chosen) →
+    length chosen ≡ length (first ∷ others) → IsRound count (first ∷ others) chosen
+round count first others chosen apart in_turn full =
     let live = first ∷ others in
     let ids = ids_of live in
     let n = length-map live id_of in
     let some : 0 < length ids = omega arith in
     let place = count % length live in
-    let whole : reached ≡ drop place ids ++ take place ids =
+    let whole : chosen ≡ drop place ids ++ take place ids =
     in_turn ∙ ap (turns ids count) (full ∙ sym n) ∙ turns_round ids count some ∙ ap (λ m. drop (count % m) ids ++ take (count % m) ids) n in
     record {
       in_order = whole;
@@ -122,15 +122,17 @@ empty_of : {A : Type 0} (xs : List A) → length xs ≡ 0 → xs ≡ []
 empty_of [] e = refl
 empty_of (x ∷ xs) e = absurd (omega arith)
 
-round_of : (before during : List Traced) (address : List ℕ) (live : List Consumer) → IsLegal (before ++ during) → HaveHandlers before during address live → length (receivers address during) ≡ length live →
-    IsRound (choices before address) live (receivers address during)
-round_of before during address [] legal have full = no_round (choices before address) (receivers address during) (empty_of (receivers address during) full)
-round_of before [] address (first ∷ others) legal have full = absurd (omega arith)
-round_of before (new ∷ rest) address (first ∷ others) legal have full =
+round_of : (before during : List Traced) (address : List ℕ) (live : List Consumer) → HaveHandlers before during address live → length (chosen_behind before during address) ≡ length live →
+    IsRound (choices before address) live (chosen_behind before during address)
+round_of before during address [] have full = no_round (choices before address) (chosen_behind before during address) (empty_of (chosen_behind before during address) full)
+round_of before [] address (first ∷ others) have full = absurd (omega arith)
+round_of before (new ∷ rest) address (first ∷ others) have full =
     let P : List Consumer → Type 0 = Apart same_by_name in
-    round (choices before address) first others (receivers address (new ∷ rest)) (subst P (handlers_first before new rest address (first ∷ others) have) (handlers_apart before address))
-    (in_turns before (new ∷ rest) address first others legal have) full
+    round (choices before address) first others (chosen_behind before (new ∷ rest) address) (subst P (handlers_first before new rest address (first ∷ others) have) (handlers_apart before address))
+    (in_turns before (new ∷ rest) address first others have) full
+
+choose_in_turn : (history : List Traced) → ChoosesInTurn history
+choose_in_turn history = λ before during after address live parts have full. round_of before during address live have full
 
 pub take_turns : (history : List Traced) → IsLegal history → TakesTurns history
-take_turns history legal = λ before during after address live parts have full.
-    round_of before during address live (legal_front (before ++ during) after (subst IsLegal parts legal)) have full
+take_turns history legal = record { in_turn = choose_in_turn history; names = names_chosen history legal }

@@ -1,6 +1,6 @@
 -- Nobody gets the message of a request that failed with NO_HANDLERS.
 use Rattle.std.proofs.Common.{◌≡◌, ℕ, ◌<◌, List, [], ◌∷◌, ◌++◌, length, refl, ap, ◌∙◌}
-use Rattle.std.specs.Prelude.{ℤ, ◌≢◌, true, Option, None, Some}
+use Rattle.std.specs.Prelude.{ℤ, ◌≢◌, true, None, Some}
 use Rattle.std.proofs.lemmas.Bool.{eqb-true}
 use Rattle.vx_data.specs.declared.ids.ConsumerId.{ConsumerId}
 use Rattle.vx_data.specs.declared.ids.ContextId.{ContextId}
@@ -9,6 +9,7 @@ use Rattle.vx_data.specs.Tree.{Tree}
 use Rattle.vx_message.specs.declared.Failure.{Failure}
 use Rattle.vx_message.specs.declared.FailureKind.{FailureKind}
 use Rattle.vx_message.specs.declared.FailureKind.TheVariants as failures
+use Rattle.vx_message.specs.declared.Options.{Options}
 use Rattle.vx_message.specs.declared.Outcome.{Outcome}
 use Rattle.vx_message.specs.declared.Outcome.TheVariants as outcomes
 use Rattle.vx_call.specs.declared.call.Call.{Call}
@@ -17,14 +18,16 @@ use Rattle.vx_call.specs.declared.history.Consumer.{Consumer}
 use Rattle.vx_call.specs.declared.history.Traced.{Traced}
 use Rattle.vx_call.specs.History.{is_accepted, lasting}
 use Rattle.vx_call.specs.Names.{next_message}
-use Rattle.vx_call.specs.Choices.{choice}
+use Rattle.vx_call.specs.Mailboxes.{accepting}
 use Rattle.vx_call.specs.Requests.{Open, settles, unsettled, settled_by, by_due}
-use Rattle.vx_call.specs.Settled.{Settled, failed, timeout, no_handlers, settlements, settled_unheard, settled_made, settled_kind}
+use Rattle.vx_call.specs.Settled.{Settled, failed, timeout, no_handlers, settlements, replied, settled_unheard, settled_made, settled_kind}
 use Rattle.vx_call.specs.Machine.{IsLegal}
-use Rattle.vx_call.proofs.Each.{Each, Each-filter, Each-both, accepted, lasting_each}
-use Rattle.vx_call.proofs.Opened.{settlement, open_key, unsettled_earlier, is_settled_as}
+use Rattle.vx_call.proofs.Each.{Each, Each-filter, Each-find, Each-both, accepted, lasting_each}
+use Rattle.vx_call.proofs.Found.{find_passes}
+use Rattle.vx_call.proofs.Opened.{open_key, unsettled_earlier}
+use Rattle.vx_call.proofs.Settlings.{settlement, is_settled_as}
 use Rattle.vx_laws.specs.Outcomes.{DeliversNoneUnheard}
-use Rattle.vx_laws.proofs.Splits.{legal_front, find_passes, Each-find, Each-any}
+use Rattle.vx_laws.proofs.Splits.{legal_front, Each-any}
 use Rattle.vx_laws.proofs.Nobody.{NobodyGets, nobody_on, nobody_reached}
 use Rattle.vx_laws.proofs.Lost.{IsAskedOf, open_asked, lost, nobody_left}
 
@@ -48,10 +51,10 @@ other_kind kind code text other none =
     let same : failure ≡ none.0 = cc in
     other (ap (λ (f : Failure). f.kind) same ∙ none.2)
 
-unheard_request : (history : List Traced) (new : Traced) (context : ContextId) (address : List ℕ) (body : Tree) (time : ℕ) (chosen : Option Consumer) →
-    new.entry.call ≡ calls.Request context address body time → choice history address ≡ chosen → Each (IsUnheardOf (history ++ new ∷ [])) (settled_unheard history context chosen)
-unheard_request history new context address body time None is_call nobody = (λ legal none. nobody_reached history new context address body time legal is_call nobody, tt)
-unheard_request history new context address body time (Some consumer) is_call somebody = tt
+unheard_request : (history : List Traced) (new : Traced) (context : ContextId) (address : List ℕ) (body : Tree) (options : Options) (time : ℕ) (all : List Consumer) →
+    new.entry.call ≡ calls.Request context address body options time → accepting history (calls.Request context address body options time) ≡ all → Each (IsUnheardOf (history ++ new ∷ [])) (settled_unheard history context all)
+unheard_request history new context address body options time [] is_call nobody = (λ legal none. nobody_reached history new context address body options time legal is_call nobody, tt)
+unheard_request history new context address body options time (consumer ∷ others) is_call somebody = tt
 
 lost_requests : (history : List Traced) (new : Traced) (id : ConsumerId) → is_accepted new.entry.reply ≡ true → new.entry.call ≡ calls.Unregister id →
     Each (IsUnheardOf (history ++ new ∷ [])) (settlements history no_handlers (settled_by history (calls.Unregister id)))
@@ -64,10 +67,11 @@ lost_requests history new id ok is_call =
     (Each-both Before (IsAskedOf history) (λ request. Before request × IsAskedOf history request) (unsettled history) (λ request before asked. (before, asked)) (unsettled_earlier history) (open_asked history)))
 
 new_unheard : (history : List Traced) (new : Traced) (call : Call) → is_accepted new.entry.reply ≡ true → new.entry.call ≡ call → Each (IsUnheardOf (history ++ new ∷ [])) (settled_made history call)
-new_unheard history new (calls.Request context address body time) ok is_call = unheard_request history new context address body time (choice history address) is_call refl
-new_unheard history new (calls.Reply message body) ok is_call = heard history (history ++ new ∷ []) (outcomes.Ok body None) _ (λ none. (let e = none.1 in cc))
+new_unheard history new (calls.Request context address body options time) ok is_call =
+    unheard_request history new context address body options time (accepting history (calls.Request context address body options time)) is_call refl
+new_unheard history new (calls.Reply message body options) ok is_call = heard history (history ++ new ∷ []) (replied history body options None) _ (λ none. (let e = none.1 in cc))
 new_unheard history new (calls.Fail message code text) ok is_call = heard history (history ++ new ∷ []) (failed failures.RecipientFailure code text) _ (other_kind failures.RecipientFailure code text (λ e. cc))
-new_unheard history new (calls.ReplyRequest message context body time) ok is_call = heard history (history ++ new ∷ []) (outcomes.Ok body (Some (next_message history))) _ (λ none. (let e = none.1 in cc))
+new_unheard history new (calls.ReplyRequest message context body options time) ok is_call = heard history (history ++ new ∷ []) (replied history body options (Some (next_message history))) _ (λ none. (let e = none.1 in cc))
 new_unheard history new (calls.Advance moment) ok is_call = heard history (history ++ new ∷ []) timeout (by_due (settled_by history (calls.Advance moment))) (other_kind failures.Timeout _ _ (λ e. cc))
 new_unheard history new (calls.Unregister id) ok is_call = lost_requests history new id ok is_call
 new_unheard history new _ ok is_call = tt

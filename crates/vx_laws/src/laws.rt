@@ -3,6 +3,7 @@ ghost use Rattle.std.specs.Prelude.{List};
 ghost use Rattle.vx_call.specs.declared.history.Traced.{Traced};
 ghost use Rattle.vx_call.specs.Machine.{IsLegal};
 ghost use Rattle.vx_laws.specs.Deliveries.{DeliversOnce};
+ghost use Rattle.vx_laws.specs.Order.{TakesInOrder};
 ghost use Rattle.vx_laws.specs.Outcomes.{EndsRequestsOnce};
 ghost use Rattle.vx_laws.specs.Turns.{TakesTurns};
 
@@ -16,7 +17,14 @@ pub fn requests_end_once()
     ensures { (history : List Traced) → IsLegal history → EndsRequestsOnce history }
 {}
 
-/// Where the same consumers handle an address throughout, as many messages as there are consumers reach each of them once.
+/// Where the same consumers handle an address throughout, as many choices as there are consumers choose each of them
+/// once. The consumer that the reply to a Send or a Request names is the one that was chosen.
 pub fn handlers_take_turns()
     ensures { (history : List Traced) → IsLegal history → TakesTurns history }
+{}
+
+/// Of two messages that one consumer accepted, the one that was sent later is taken only after the other was: through
+/// Pause, Resume and Fetch.
+pub fn messages_are_taken_in_order()
+    ensures { (history : List Traced) → IsLegal history → TakesInOrder history }
 {}

@@ -3,4 +3,7 @@
 
 mod laws;
 
-pub use laws::{handlers_take_turns, messages_are_delivered_once, requests_end_once};
+pub use laws::{
+    handlers_take_turns, messages_are_delivered_once, messages_are_taken_in_order,
+    requests_end_once,
+};

@@ -1,13 +1,41 @@
 //! What travels on the event bus, and the plain data that several stores name.
 #![tactic(auto)]
 
-use vx_data::{Body, ConsumerId, ContextId, EntryNo, MessageId, PassNo, Text};
+mod rules;
+
+pub use rules::{Codec, CodecForm, Condition, MAX_ADDED_BYTES, MAX_RULES, Rule, Side, Verdict};
+use std::alloc::Global;
+use vx_data::{Body, ConsumerId, ContextId, EntryNo, Headers, MessageId, PassNo, Text};
+
+/// What goes with a message or a reply. (Vert.x core API, `DeliveryOptions`.)
+#[derive(Debug, Drop)]
+pub struct Options {
+    pub headers: Headers,
+    /// The name of the codec that the body goes through. Without one the body is copied as it is.
+    pub codec: Option<Text>,
+}
+
+impl Options {
+    ghost use Rattle.std.specs.Prelude.{◌≡◌, [], None};
+
+    /// No headers, and no codec. The list of headers keeps the allocator.
+    pub fn none(alloc: Global) -> Options
+        ensures headers { result.headers ≡ [] }
+        ensures codec { result.codec ≡ None }
+    {
+        Options {
+            headers: Headers::empty(alloc),
+            codec: None,
+        }
+    }
+}
 
 /// A message, as a consumer gets it.
 #[derive(Debug, Drop)]
 pub struct Message {
     pub id: MessageId,
     pub address: Text,
+    pub headers: Headers,
     pub body: Body,
     /// Whether its sender waits for a reply.
     pub request: bool,
@@ -39,6 +67,7 @@ pub struct Failure {
 pub enum Outcome {
     /// A reply. Where `again` names a message, the asker may reply to it in its turn.
     Ok {
+        headers: Headers,
         body: Body,
         again: Option<MessageId>,
     },

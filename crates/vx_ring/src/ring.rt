@@ -25,15 +25,25 @@ impl Ring {
         })
     }
 
+    /// The consumer whose turn it is.
+    pub fn turn(&self) -> Option<ConsumerId>
+        ensures { result ≡ slice_get self.now.consumers.items (self.now.choices % length self.now.consumers.items) }
+    {
+        let turn = self.choices.checked_rem(self.consumers.len() as u64)?;
+        self.consumers.get(turn as usize).copied()
+    }
+
     /// The consumer whose turn it is, and one more choice. 2^64 - 1 choices stay as they are.
     pub fn take_turn(&mut self) -> Option<ConsumerId>
         ensures chosen { result ≡ slice_get self.old.consumers.items (self.old.choices % length self.old.consumers.items) }
         ensures consumers { self.new.consumers.items ≡ self.old.consumers.items }
         ensures choices { self.new.choices ≡ (if is_empty self.old.consumers.items then self.old.choices else min (self.old.choices + 1) (2 ^ 64 - 1)) }
     {
-        let turn = self.choices.checked_rem(self.consumers.len() as u64)?;
-        self.choices = self.choices.saturating_add(1);
-        self.consumers.get(turn as usize).copied()
+        let chosen = self.turn();
+        if chosen.is_some() {
+            self.choices = self.choices.saturating_add(1);
+        }
+        chosen
     }
 
     /// Leaves a consumer out, and says whether it was there.

@@ -61,6 +61,13 @@ impl Rings {
         remove(&mut self.map, address, consumer)
     }
 
+    /// The consumer whose turn it is at an address, or none where it has none. The choice is not counted.
+    pub fn turn(&self, address: &Text) -> Option<ConsumerId>
+        ensures { result ≡ slice_get (consumers_at address.now self.now) (choices_at address.now self.now % length (consumers_at address.now self.now)) }
+    {
+        turn(&self.map, address)
+    }
+
     /// The consumer whose turn it is at an address, or none where it has none, and counts the choice. 2^64 - 1 choices
     /// stay as they are. It takes no memory.
     pub fn choose(&mut self, address: &Text) -> Option<ConsumerId>
@@ -120,6 +127,13 @@ fn remove(map: &mut IndexMap<Text, Ring>, address: &Text, consumer: ConsumerId) 
         map.swap_remove(address);
     }
     found
+}
+
+// The consumer whose turn it is at an address.
+fn turn(map: &IndexMap<Text, Ring>, address: &Text) -> Option<ConsumerId>
+    ensures { result ≡ slice_get (consumers_of (ring_at address.now map.now.entries)) (choices_of (ring_at address.now map.now.entries) % length (consumers_of (ring_at address.now map.now.entries))) }
+{
+    map.get(address)?.turn()
 }
 
 // The consumer whose turn it is at an address, whose choices are counted.

@@ -1,6 +1,6 @@
 -- Digits, and what `parse` makes of them.
 use Rattle.std.proofs.Common.{◌≡◌, ℕ, ◌^◌, ◌<◌, ◌≤◌, List, [], ◌∷◌, length, Bool, true, false, cond, ◌&&◌, ◌==◌, nat_le, nat_lt, ℤ, pos, neg_ℤ, Some, None, Result, Ok, Err, OkIff, refl, ap, arith, rules, tests, subst}
-use mir.Syntax.{w32, w64}
+use mir.Syntax.{w32}
 use Rattle.std.specs.List.{list_all}
 use Rattle.std.specs.Char.{is_ascii_digit}
 use Rattle.std.specs.Result.{result_ok}
@@ -9,10 +9,10 @@ use Rattle.std.specs.Str.Parse.{digits_value, ParsesUnsigned, ParsesSigned}
 use Rattle.std.proofs.lemmas.Bool.{and_parts}
 use Rattle.std.proofs.lemmas.Bool.Decides.{nat_tests}
 use Rattle.std.proofs.lemmas.Str.{IsUtf8-from_ascii}
-use Rattle.std.proofs.lemmas.Str.Parse.{IsNumeralModel, IsDigitsTest, numerals_by_value, digits_value_short, parse_digits, parse_signed_minus, parse_signed_digits}
-use Rattle.vx_script.specs.Grammar.{is_digits, is_int, is_unpadded}
-use Rattle.vx_script.specs.Reading.{number_in, negative_in, positive_in, behind_minus, code_in, int_in}
-use Rattle.vx_script.proofs.Texts.{ascii_at}
+use Rattle.std.proofs.lemmas.Str.Parse.{IsNumeralModel, IsDigitsTest, numerals_by_value, parse_digits, parse_signed_minus, parse_signed_digits}
+use Rattle.vx_script.specs.Grammar.{is_digits}
+use Rattle.vx_script.specs.Reading.{number_in, negative_in, positive_in, behind_minus, code_in}
+use Rattle.vx_script.proofs.Texts.{ascii_at, ascii_utf8}
 
 test : IsDigitsTest (λ ds. list_all is_ascii_digit ds ≡ true)
 test = search rules
@@ -107,11 +107,8 @@ no_code (b ∷ bs) d = by_sign (b == 45) d
     by_sign false d = rw d refl
 
 minus_low : (b : ℕ) (bs : List ℕ) → b == 45 ≡ true → list_all is_ascii_digit bs ≡ true → IsUtf8 (b ∷ bs)
-minus_low b bs s h = IsUtf8-from_ascii (b ∷ bs) (ascii_at (λ c. nat_lt c 128) low (b ∷ bs) (rw (first, digits_low bs h) refl))
+minus_low b bs s h = ascii_utf8 (b ∷ bs) (rw (first, digits_low bs h) refl)
   where
-    low : (c : ℕ) → nat_lt c 128 ≡ true → c < 128
-    low c k = grind (arith, nat_tests)
-
     first : nat_lt b 128 ≡ true
     first = grind (arith, tests, nat_tests)
 
@@ -128,27 +125,3 @@ code_utf8 (b ∷ bs) d = by_sign (b == 45) refl d
     by_sign : (minus : Bool) → b == 45 ≡ minus → is_digits (cond minus bs (b ∷ bs)) ≡ true → IsUtf8 (b ∷ bs)
     by_sign true s d = minus_low b bs s (digits_parts bs d).0
     by_sign false s d = digits_utf8 (b ∷ bs) d
-
--- a number in a body
-pub int_parts : (text : List ℕ) → is_int text ≡ true → (list_all is_ascii_digit text ≡ true) × (0 < length text) × (length text ≤ 18)
-int_parts text d =
-    let o = and_parts (nat_le 1 (length text) && nat_le (length text) 18 && list_all is_ascii_digit text) (is_unpadded text) d in
-    let p = and_parts (nat_le 1 (length text) && nat_le (length text) 18) (list_all is_ascii_digit text) o.0 in
-    let q = and_parts (nat_le 1 (length text)) (nat_le (length text) 18) p.0 in
-    (p.1, some_by (length text) q.0, few_by (length text) 18 q.1)
-
-pub int_utf8 : (text : List ℕ) → is_int text ≡ true → IsUtf8 text
-int_utf8 text d = all_utf8 text (int_parts text d).0
-
-pub int_parsed : {E : Type 0} (text digits : List ℕ) (r : Result ℤ E) → digits ≡ text → ParsesSigned w64 10 digits r → is_int text ≡ true → result_ok r ≡ int_in text
-unfolding int_in
-int_parsed {E} text digits r e h d =
-    let p = int_parts text d in
-    by_result r (parse_signed_digits own w64 text r (subst (λ (v : List ℕ). ParsesSigned w64 10 v r) e h) p.0)
-  where
-    small : digits_value 10 text < 10 ^ 18
-    small = let p = int_parts text d in digits_value_short own text 18 p.0 p.2
-
-    by_result : (r : Result ℤ E) → OkIff r ((0 < length text) × (digits_value 10 text < 2 ^ 63)) (pos (digits_value 10 text)) → result_ok r ≡ cond (is_int text) (Some (pos (digits_value 10 text))) None
-    by_result (Ok x) k = rw d (ap Some k.1)
-    by_result (Err x) k = let u : digits_value 10 text < 2 ^ 63 = omega (arith, small) in absurd (k ((int_parts text d).1, u))

@@ -1,6 +1,6 @@
 -- Each form of a line, and whole lines: what is read is spelled so, and what is spelled so is read.
-use Rattle.std.proofs.Common.{◌≡◌, ℕ, ◌+◌, ◌<◌, zero, suc, List, [], ◌∷◌, ◌++◌, length, replicate, Bool, true, false, cond, not, ◌==◌, arith, refl, sym, ◌∙◌, ap, Option, Some, None, inl, inr, lit<, append_assoc, subst, codes}
-use Rattle.std.specs.List.{list_all, AllByRecursion}
+use Rattle.std.proofs.Common.{◌≡◌, ℕ, ◌+◌, ◌<◌, zero, suc, List, [], ◌∷◌, ◌++◌, length, replicate, Bool, true, false, cond, ◌==◌, arith, refl, sym, ◌∙◌, ap, Option, Some, None, inl, inr, append_assoc, subst}
+use Rattle.std.specs.List.{AllByRecursion}
 use Rattle.std.specs.Str.{is_utf8, bytes_eq}
 use Rattle.std.specs.Str.Parse.{digits_value}
 use Rattle.std.proofs.lemmas.Bool.{and_parts}
@@ -10,69 +10,25 @@ use Rattle.std.proofs.lemmas.Str.{IsUtf8-from_is_utf8, is_utf8-from_IsUtf8}
 use Rattle.vx_data.specs.declared.ids.PassNo.{PassNo}
 use Rattle.vx_call.specs.declared.call.Call.{Call}
 use Rattle.vx_script.specs.declared.command.Command.{Command}
-use Rattle.vx_script.specs.Grammar.{begins_with, is_digits, Form, forms, NamesPass, is_pass, is_number, IsOfForm, IsOfOne, is_silent, IsLine}
+use Rattle.vx_script.specs.Grammar.{begins_with, is_word, is_digits, Form, forms, NamesPass, is_pass, is_number, IsOfForm, IsOfOne, is_silent, IsLine}
 use Rattle.vx_script.specs.Reading.{word_len, spaces_len, first_word, behind_word, without_spaces, options_at, values_at, form_at, call_by, call_at, names_pass, pass_of, behind_pass, pass_at, command_at, said_at}
-use Rattle.vx_script.proofs.Words.{IsTail, Begins, bind_some, guard_some, chosen, is_same, begins_word, behind_tail, no_space_by, spaces_front, without_spaces_again, first_again, behind_again}
-use Rattle.vx_script.proofs.Tokens.{IsPlain, digits_plain}
-use Rattle.vx_script.proofs.Runs.{options_take, run_tail, options_again}
-use Rattle.vx_script.proofs.Values.{AreProper, IsProperEnd, values_take, follows_tail, follows_plain, values_again}
+use Rattle.vx_script.proofs.Words.{IsTail, Begins, bind_some, guard_some, chosen, is_same, begins_word, behind_tail, word_parts, spaces_tail, spaces_front, without_spaces_again, first_again, behind_again}
+use Rattle.vx_script.proofs.Digits.{digits_parts}
+use Rattle.vx_script.proofs.Tokens.{digits_no_space}
+use Rattle.vx_script.proofs.Runs.{options_take, choose_tail, options_again}
+use Rattle.vx_script.proofs.Values.{values_take, follows_tail, values_again}
 
 -- ## What stands behind the pass
 
 -- The form is found by its word, which begins no comment and names no pass.
 record IsFound (form : Form) : Type 0 where
   found : (tail : List ℕ) → call_by forms form.word tail ≡ form_at form tail
-  proper : AreProper form.kinds
-  end : IsProperEnd form.kinds form.ending
-  word : list_all (λ b. not (b == 32)) form.word ≡ true
-  some : 0 < length form.word
+  word : is_word form.word ≡ true
   speaks : (tail : List ℕ) → is_silent (form.word ++ tail) ≡ false
   no_pass : (tail : List ℕ) → begins_with 64 (form.word ++ tail) ≡ false
 
-own_plain : IsPlain (codes "own")
-own_plain = record { no_space = (refl, (refl, (refl, tt))); some = lit< tt; no_plus = refl }
-
 all_found : AllByRecursion IsFound forms
-all_found = (
-  record { found = λ _. refl; proper = tt; end = tt; word = refl; some = lit< tt; speaks = λ _. refl; no_pass = λ _. refl },
-  (
-    record { found = λ _. refl; proper = tt; end = tt; word = refl; some = lit< tt; speaks = λ _. refl; no_pass = λ _. refl },
-    (
-      record { found = λ _. refl; proper = (tt, (tt, tt)); end = tt; word = refl; some = lit< tt; speaks = λ _. refl; no_pass = λ _. refl },
-      (
-        record { found = λ _. refl; proper = (tt, tt); end = tt; word = refl; some = lit< tt; speaks = λ _. refl; no_pass = λ _. refl },
-        (
-          record { found = λ _. refl; proper = (tt, tt); end = tt; word = refl; some = lit< tt; speaks = λ _. refl; no_pass = λ _. refl },
-          (
-            record { found = λ _. refl; proper = (own_plain, (tt, tt)); end = tt; word = refl; some = lit< tt; speaks = λ _. refl; no_pass = λ _. refl },
-            (
-              record { found = λ _. refl; proper = tt; end = tt; word = refl; some = lit< tt; speaks = λ _. refl; no_pass = λ _. refl },
-              (
-                record { found = λ _. refl; proper = (tt, (tt, tt)); end = tt; word = refl; some = lit< tt; speaks = λ _. refl; no_pass = λ _. refl },
-                (
-                  record { found = λ _. refl; proper = (tt, (tt, tt)); end = tt; word = refl; some = lit< tt; speaks = λ _. refl; no_pass = λ _. refl },
-                  (
-                    record { found = λ _. refl; proper = (tt, (tt, (tt, tt))); end = tt; word = refl; some = lit< tt; speaks = λ _. refl; no_pass = λ _. refl },
-                    (
-                      record { found = λ _. refl; proper = (tt, (tt, tt)); end = tt; word = refl; some = lit< tt; speaks = λ _. refl; no_pass = λ _. refl },
-                      (
-                        record { found = λ _. refl; proper = (tt, (tt, tt)); end = tt; word = refl; some = lit< tt; speaks = λ _. refl; no_pass = λ _. refl },
-                        (
-                          record { found = λ _. refl; proper = (tt, (tt, (tt, tt))); end = tt; word = refl; some = lit< tt; speaks = λ _. refl; no_pass = λ _. refl },
-                          tt,
-                        ),
-                      ),
-                    ),
-                  ),
-                ),
-              ),
-            ),
-          ),
-        ),
-      ),
-    ),
-  ),
-)
+all_found = (record { found = λ _. refl; word = refl; speaks = λ _. refl; no_pass = λ _. refl }, (record { found = λ _. refl; word = refl; speaks = λ _. refl; no_pass = λ _. refl }, (record { found = λ _. refl; word = refl; speaks = λ _. refl; no_pass = λ _. refl }, (record { found = λ _. refl; word = refl; speaks = λ _. refl; no_pass = λ _. refl }, (record { found = λ _. refl; word = refl; speaks = λ _. refl; no_pass = λ _. refl }, (record { found = λ _. refl; word = refl; speaks = λ _. refl; no_pass = λ _. refl }, (record { found = λ _. refl; word = refl; speaks = λ _. refl; no_pass = λ _. refl }, (record { found = λ _. refl; word = refl; speaks = λ _. refl; no_pass = λ _. refl }, (record { found = λ _. refl; word = refl; speaks = λ _. refl; no_pass = λ _. refl }, (record { found = λ _. refl; word = refl; speaks = λ _. refl; no_pass = λ _. refl }, (record { found = λ _. refl; word = refl; speaks = λ _. refl; no_pass = λ _. refl }, (record { found = λ _. refl; word = refl; speaks = λ _. refl; no_pass = λ _. refl }, (record { found = λ _. refl; word = refl; speaks = λ _. refl; no_pass = λ _. refl }, (record { found = λ _. refl; word = refl; speaks = λ _. refl; no_pass = λ _. refl }, (record { found = λ _. refl; word = refl; speaks = λ _. refl; no_pass = λ _. refl }, (record { found = λ _. refl; word = refl; speaks = λ _. refl; no_pass = λ _. refl }, (record { found = λ _. refl; word = refl; speaks = λ _. refl; no_pass = λ _. refl }, (record { found = λ _. refl; word = refl; speaks = λ _. refl; no_pass = λ _. refl }, (record { found = λ _. refl; word = refl; speaks = λ _. refl; no_pass = λ _. refl }, (record { found = λ _. refl; word = refl; speaks = λ _. refl; no_pass = λ _. refl }, tt))))))))))))))))))))
 
 -- What stands before a form's tail: spaces, a pass, and the form's word.
 record Framed (passes : ℕ) (pass : PassNo) (word tail line : List ℕ) : Type 0 where
@@ -83,32 +39,29 @@ record Framed (passes : ℕ) (pass : PassNo) (word tail line : List ℕ) : Type 
 
 -- ## Read, and so spelled
 
-call_by_take : (fs : List Form) (passes : ℕ) (pass : PassNo) (word tail line : List ℕ) (call : Call) → Framed passes pass word tail line → call_by fs word tail ≡ Some call → IsOfOne fs passes (record { pass = pass; call = call }) line
-call_by_take [] passes pass word tail line call framed h = cc
-call_by_take (f ∷ fs) passes pass word tail line call framed h =
+call_by_take : (fs : List Form) (passes : ℕ) (pass : PassNo) (word tail line : List ℕ) (call : Call) → IsTail tail → Framed passes pass word tail line → call_by fs word tail ≡ Some call → IsOfOne fs passes (record { pass = pass; call = call }) line
+call_by_take [] passes pass word tail line call q framed h = cc
+call_by_take (f ∷ fs) passes pass word tail line call q framed h =
     elim (chosen (bytes_eq word f.word) (form_at f tail) (call_by fs word tail) (Some call) h) [
       | inl w ↦
           (let x = bind_some (options_at f.options tail) _ call w.1 in
-          let y = bind_some (values_at f.kinds f.ending x.0.1) (λ values. Some (f.make x.0.0 values)) call x.2 in
+          let y = bind_some (values_at f.tokens f.ending x.0.1) (λ values. Some (f.make x.0.0 values)) call x.2 in
           let s : word ≡ f.word = (bytes_eq-Decides word f.word).0 w.0 in
           let m : f.make x.0.0 y.0 ≡ call = cc in
-          let taken = options_take f.options tail x.0 x.1 in
           inl (record {
             spaces = framed.spaces;
             naming = framed.naming;
             tail = tail;
-            words = taken.words;
             rest = x.0.1;
             chosen = x.0.0;
             values = y.0;
             begins = framed.begins ∙ ap (λ t. replicate framed.spaces 32 ++ (framed.naming ++ (t ++ tail))) s;
             names = framed.names;
-            run = taken.run;
-            tell = taken.tell;
-            follow = values_take f.kinds f.ending x.0.1 y.0 y.1;
+            choose = options_take f.options tail x.0 q x.1;
+            follow = values_take f.tokens f.ending x.0.1 y.0 y.1;
             makes = sym m;
           }))
-      | inr w ↦ inr (call_by_take fs passes pass word tail line call framed w.1)
+      | inr w ↦ inr (call_by_take fs passes pass word tail line call q framed w.1)
     ]
 
 call_some : (rest : List ℕ) (call : Call) → call_at (first_word rest) (behind_word rest) ≡ Some call → 0 < length rest
@@ -156,7 +109,7 @@ behind_take passes line bytes n pass rest call e g p b h =
     let some : 0 < length (behind_pass bytes) = subst (λ (v : List ℕ). 0 < length v) (sym b) (call_some rest call h) in
     let t = pass_take passes bytes g some in
     let framed = framed_at passes n pass line bytes t.0 (behind_pass bytes) rest e t.1 b (subst (λ (v : PassNo). NamesPass passes v t.0) p t.2) in
-    call_by_take forms passes pass (first_word rest) (behind_word rest) line call framed h
+    call_by_take forms passes pass (first_word rest) (behind_word rest) line call (behind_tail rest) framed h
 
 command_take : (passes : ℕ) (line bytes : List ℕ) (n : ℕ) (command : Command) → line ≡ replicate n 32 ++ bytes → command_at passes bytes ≡ Some command → IsOfOne forms passes command line
 unfolding command_at
@@ -186,15 +139,12 @@ unnamed : (passes : ℕ) (rest : List ℕ) → begins_with 64 rest ≡ false →
 unnamed passes [] h = refl
 unnamed passes (b ∷ bs) h = rw h refl
 
-spaces_tail : (n : ℕ) (rest : List ℕ) → IsTail (replicate (n + 1) 32 ++ rest)
-spaces_tail n rest = let s : n + 1 ≡ suc n = omega arith in rw s refl
-
 named_again : (passes : ℕ) (digits rest : List ℕ) (n : ℕ) → is_pass passes digits ≡ true → Begins rest → pass_at passes (64 ∷ (digits ++ (replicate (n + 1) 32 ++ rest))) ≡ Some (record { 0 = digits_value 10 digits }, rest)
 named_again passes digits rest n h b =
     let spaces = replicate (n + 1) 32 ++ rest in
-    let letters = (digits_plain digits (and_parts (is_digits digits) _ (and_parts (is_number 64 digits) _ h).0).0).no_space in
-    let word : first_word (digits ++ spaces) ≡ digits = first_again digits spaces letters (spaces_tail n rest) in
-    let tail : behind_word (digits ++ spaces) ≡ spaces = behind_again digits spaces letters (spaces_tail n rest) in
+    let letters = digits_no_space digits (digits_parts digits (and_parts (is_digits digits) _ (and_parts (is_number 64 digits) _ h).0).0).0 in
+    let word : first_word (digits ++ spaces) ≡ digits = first_again digits spaces letters (spaces_tail n spaces rest refl) in
+    let tail : behind_word (digits ++ spaces) ≡ spaces = behind_again digits spaces letters (spaces_tail n spaces rest refl) in
     rw (word, tail) (rw h (rw (without_spaces_again (n + 1) rest b) refl))
 
 pass_again : (passes : ℕ) (pass : PassNo) (naming rest : List ℕ) → NamesPass passes pass naming → Begins rest → begins_with 64 rest ≡ false → pass_at passes (naming ++ rest) ≡ Some (pass, rest)
@@ -215,13 +165,10 @@ speaks_behind : (n : ℕ) (bytes : List ℕ) → is_silent bytes ≡ false → i
 speaks_behind zero bytes h = h
 speaks_behind (suc n) bytes h = refl
 
-form_again : (form : Form) (passes : ℕ) (command : Command) (line : List ℕ) → IsFound form → (has : IsOfForm form passes command line) → form_at form has.tail ≡ Some command.call
-form_again form passes command line found has =
-    let q = follows_tail form.kinds form.ending has.values has.rest has.follow in
-    let none = follows_plain form.kinds form.ending has.values has.rest found.proper found.end has.follow in
-    let options = options_again form.options has.words has.chosen has.rest has.tail q none has.run has.tell in
-    let values = values_again form.kinds form.ending has.values has.rest found.proper has.follow in
-    rw options (rw values (ap Some (sym has.makes)))
+form_again : (form : Form) (passes : ℕ) (command : Command) (line : List ℕ) → (has : IsOfForm form passes command line) → form_at form has.tail ≡ Some command.call
+form_again form passes command line has =
+    let q = follows_tail form.tokens form.ending has.values has.rest has.follow in
+    rw (options_again form.options has.chosen has.rest has.tail q has.choose) (rw (values_again form.tokens form.ending has.values has.rest has.follow) (ap Some (sym has.makes)))
 
 command_again : (passes : ℕ) (line : List ℕ) (command : Command) → Chosen passes command line → (command_at passes (without_spaces line) ≡ Some command) × (is_silent line ≡ false)
 unfolding command_at call_at
@@ -230,12 +177,13 @@ command_again passes line command c =
     let has = c.has in
     let word = form.word in
     let rest = word ++ has.tail in
-    let letters = no_space_by word c.is_found.word in
-    let q = run_tail form.options has.words has.rest has.tail (follows_tail form.kinds form.ending has.values has.rest has.follow) has.run in
-    let begins = begins_word word has.tail letters c.is_found.some in
+    let parts = word_parts word c.is_found.word in
+    let letters = parts.1 in
+    let q = choose_tail form.options has.chosen has.rest has.tail (follows_tail form.tokens form.ending has.values has.rest has.follow) has.choose in
+    let begins = begins_word word has.tail letters parts.0 in
     let bytes : without_spaces line ≡ has.naming ++ rest = ap without_spaces has.begins ∙ without_spaces_again has.spaces (has.naming ++ rest) (naming_begins passes command.pass has.naming rest has.names begins) in
     let pass : pass_at passes (without_spaces line) ≡ Some (command.pass, rest) = ap (pass_at passes) bytes ∙ pass_again passes command.pass has.naming rest has.names begins (c.is_found.no_pass has.tail) in
-    let called : call_by forms word has.tail ≡ Some command.call = c.is_found.found has.tail ∙ form_again form passes command line c.is_found has in
+    let called : call_by forms word has.tail ≡ Some command.call = c.is_found.found has.tail ∙ form_again form passes command line has in
     let silent : is_silent line ≡ false = ap is_silent has.begins ∙ speaks_behind has.spaces (has.naming ++ rest) (naming_speaks passes command.pass has.naming rest has.names (c.is_found.speaks has.tail)) in
     (rw pass (rw (first_again word has.tail letters q, behind_again word has.tail letters q) (rw called refl)), silent)
 

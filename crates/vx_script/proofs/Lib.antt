@@ -1,8 +1,9 @@
 pub mod Texts
 pub mod Digits
 pub mod Words
-pub mod Bodies
 pub mod Tokens
+pub mod Endings
+pub mod Choices
 pub mod Runs
 pub mod Values
 pub mod Forms

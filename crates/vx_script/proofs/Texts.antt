@@ -1,12 +1,15 @@
 -- Bytes that are UTF-8.
-use Rattle.std.proofs.Common.{◌≡◌, ℕ, ◌<◌, List, [], ◌∷◌, Bool, true, false, not, ◌&&◌, ◌==◌, nat_le, arith, tests, refl, sym, Result, Ok, Err, MatchResult, is_ok, length, Bor, zero, suc}
-use Rattle.std.specs.Prelude.{slice_index}
+use Rattle.std.proofs.Common.{◌≡◌, ℕ, ◌<◌, List, [], ◌∷◌, Bool, true, false, cond, nat_lt, arith, refl, sym, ap, Result, Ok, Err, MatchResult, is_ok, Bor, zero, suc, Some, None}
+use Rattle.std.specs.Prelude.{slice_index, ◌↔◌}
 use Rattle.std.specs.Str.{IsUtf8, is_utf8, IsValidUpTo, valid_up_to}
 use Rattle.std.specs.List.{list_all}
 use Rattle.std.specs.declared.str.Utf8Error.{Utf8Error}
 use Rattle.std.proofs.lemmas.Bool.{and_parts}
+use Rattle.std.proofs.lemmas.Bool.Decides.{nat_tests}
 use Rattle.std.proofs.lemmas.Str.{IsUtf8-from_ascii, IsUtf8-from_is_utf8, is_utf8-from_IsUtf8}
-use Rattle.vx_script.specs.Grammar.{is_graphic, is_quotable, is_address, is_quoted}
+use Rattle.vx_data.specs.declared.text.TextFault.{TextFault}
+use Rattle.vx_data.specs.declared.text.TextFault.TheVariants.{BadText}
+use Rattle.vx_script.specs.Reading.{text_in}
 
 pub utf8_test : (bs : List ℕ) (r : Result (Bor (List ℕ)) Utf8Error) →
     MatchResult r (λ s. (s.now ≡ bs) × IsUtf8 bs) (λ e. (IsUtf8 bs → ⊥) × IsValidUpTo bs (valid_up_to e)) → is_ok r ≡ is_utf8 bs
@@ -23,19 +26,28 @@ ascii_at p low [] h i = omega arith
 ascii_at p low (b ∷ bs) h zero = low b (and_parts (p b) (list_all p bs) h).0
 ascii_at p low (b ∷ bs) h (suc i) = ascii_at p low bs (and_parts (p b) (list_all p bs) h).1 i
 
-graphic_low : (b : ℕ) → is_graphic b ≡ true → b < 128
-graphic_low b h = grind (arith, tests)
+pub ascii_utf8 : (bs : List ℕ) → list_all (λ b. nat_lt b 128) bs ≡ true → IsUtf8 bs
+ascii_utf8 bs h = IsUtf8-from_ascii bs (ascii_at (λ b. nat_lt b 128) low bs h)
+  where
+    low : (b : ℕ) → nat_lt b 128 ≡ true → b < 128
+    low b k = grind (arith, nat_tests)
 
-quotable_low : (b : ℕ) → is_quotable b ≡ true → b < 128
-quotable_low b h = grind (arith, tests)
+-- what a text is made of
+pub text_read : (bs text : List ℕ) (r : Result (List ℕ) TextFault) → r ≡ Ok text → text ≡ bs → (r ≡ Err BadText) ↔ (¬ (IsUtf8 bs)) → text_in bs ≡ Some text
+unfolding text_in
+text_read bs text r ok e h = by_test (is_utf8 bs) refl
+  where
+    by_test : (b : Bool) → is_utf8 bs ≡ b → cond b (Some bs) None ≡ Some text
+    by_test true u = ap Some (sym e)
+    by_test false u =
+        let not_utf8 : ¬ (IsUtf8 bs) = (λ i. let t = is_utf8-from_IsUtf8 bs i in cc) in
+        let bad : r ≡ Err BadText = h.1 not_utf8 in
+        cc
 
-pub address_utf8 : (text : List ℕ) → is_address text ≡ true → is_utf8 text ≡ true
-address_utf8 text h =
-    let p = and_parts (nat_le 1 (length text) && nat_le (length text) 1024 && list_all is_graphic text) (not (slice_index text 0 == 43)) h in
-    let q = and_parts (nat_le 1 (length text) && nat_le (length text) 1024) (list_all is_graphic text) p.0 in
-    is_utf8-from_IsUtf8 text (IsUtf8-from_ascii text (ascii_at is_graphic graphic_low text q.1))
-
-pub quoted_utf8 : (text : List ℕ) → is_quoted text ≡ true → is_utf8 text ≡ true
-quoted_utf8 text h =
-    let p = and_parts (nat_le (length text) 1000000) (list_all is_quotable text) h in
-    is_utf8-from_IsUtf8 text (IsUtf8-from_ascii text (ascii_at is_quotable quotable_low text p.1))
+pub text_refused : (bs : List ℕ) (r : Result (List ℕ) TextFault) → r ≡ Err BadText → (r ≡ Err BadText) ↔ (¬ (IsUtf8 bs)) → text_in bs ≡ None
+unfolding text_in
+text_refused bs r bad h = by_test (is_utf8 bs) refl
+  where
+    by_test : (b : Bool) → is_utf8 bs ≡ b → cond b (Some bs) None ≡ None
+    by_test true u = absurd (h.0 bad (IsUtf8-from_is_utf8 bs u))
+    by_test false u = refl

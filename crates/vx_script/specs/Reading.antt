@@ -1,17 +1,28 @@
 -- Reading a line from left to right. A tail is what is left behind a word: it is empty or begins with a space.
-use Rattle.std.specs.Prelude.{◌≡◌, ℕ, ℤ, pos, neg_ℤ, List, [], ◌∷◌, length, take, drop, zero, suc, Bool, true, not, Option, Some, None, Result, Ok, Err, ◌==◌, if◌then◌else◌}
-use Rattle.std.specs.List.{list_all, prefix_len}
+use Rattle.std.specs.Prelude.{◌≡◌, ℕ, ℤ, pos, neg_ℤ, List, [], ◌∷◌, ◌++◌, length, map, take, drop, zero, suc, Bool, true, not, Option, Some, None, Result, Ok, Err, ◌==◌, nat_le, if◌then◌else◌, codes}
+use Rattle.std.specs.List.{list_all, list_any, prefix_len}
 use Rattle.std.specs.Str.{bytes_eq, is_utf8}
 use Rattle.std.specs.Str.Parse.{digits_value}
 use Rattle.vx_data.specs.declared.ids.PassNo.{PassNo}
 use Rattle.vx_data.specs.declared.ids.ContextId.{ContextId}
-use Rattle.vx_data.specs.Tree as tree
+use Rattle.vx_data.specs.HeaderLists.{too_many}
 use Rattle.vx_data.specs.Tree.{Tree}
+use Rattle.vx_data.specs.Bodies.{tree_depth}
+use Rattle.vx_json.specs.Grammar.{max_read_depth}
+use Rattle.vx_json.specs.Reading.{after, json_of}
+use Rattle.vx_message.specs.declared.rules.CodecForm.{CodecForm}
+use Rattle.vx_message.specs.declared.rules.CodecForm.TheVariants.{Copy, KeepKeys, DropKeys, Wrap}
+use Rattle.vx_message.specs.declared.rules.Condition.{Condition}
+use Rattle.vx_message.specs.declared.rules.Condition.TheVariants.{Any, At, Has}
+use Rattle.vx_message.specs.declared.rules.Side.{Side}
+use Rattle.vx_message.specs.declared.rules.Side.TheVariants as sides
+use Rattle.vx_message.specs.declared.rules.Verdict.{Verdict}
+use Rattle.vx_message.specs.declared.rules.Verdict.TheVariants.{Stop, Add}
 use Rattle.vx_call.specs.declared.call.Call.{Call}
 use Rattle.vx_script.specs.declared.command.Command.{Command}
 use Rattle.vx_script.specs.declared.fault.LineFault.{LineFault}
 use Rattle.vx_script.specs.declared.fault.LineFault.TheVariants as faults
-use Rattle.vx_script.specs.Grammar.{begins_with, is_number, is_negated, is_address, is_int, is_quoted, is_blank, is_silent, is_pass, Token, AWord, ANumber, AContext, AnAddress, ACode, TokenValue, Kind, OneWord, ABody, Value, Ending, Nothing, AText, EndValue, Values, Optional, Chosen, is_known, named, option_name, option_text, Form, forms}
+use Rattle.vx_script.specs.Grammar.{begins_with, is_number, is_negated, is_blank, is_silent, is_pass, Token, AWord, ANumber, AContext, ACode, AText, AHeader, ASide, ACondition, AVerdict, TokenValue, Ending, Nothing, TheRest, ABody, ACodecForm, EndValue, Values, Optional, One, Many, name_of, Choice, Chosen, option_name, texts_of, Form, forms}
 
 -- what a step reads, and the next step from there
 infixl 10 ◌>>=◌
@@ -31,18 +42,16 @@ Gives view (Err fault) read = Fails fault read
 
 -- ## Words
 
--- the length of the word at the front, of the spaces at the front, and of what stands before the first quote and the first point
+-- the length of the word at the front, and of the spaces at the front
 abbrev pub word_len : List ℕ → ℕ
 word_len bytes = prefix_len (λ b. not (b == 32)) bytes
 
 abbrev pub spaces_len : List ℕ → ℕ
 spaces_len bytes = prefix_len (λ b. b == 32) bytes
 
-abbrev pub quote_at : List ℕ → ℕ
-quote_at bytes = prefix_len (λ b. not (b == 34)) bytes
-
-abbrev pub point_at : List ℕ → ℕ
-point_at bytes = prefix_len (λ b. not (b == 46)) bytes
+-- how many bytes stand before the first of this one
+abbrev pub place_of : ℕ → List ℕ → ℕ
+place_of letter bytes = prefix_len (λ b. not (b == letter)) bytes
 
 abbrev pub without_spaces : List ℕ → List ℕ
 without_spaces bytes = drop (spaces_len bytes) bytes
@@ -57,11 +66,13 @@ behind_word bytes = drop (word_len bytes) bytes
 unfoldable pub behind_spaces : List ℕ → Option (List ℕ)
 behind_spaces tail = if spaces_len tail == 0 then None else Some (without_spaces tail)
 
+abbrev pub split_word : List ℕ → Option (List ℕ × List ℕ)
+split_word [] = None
+split_word (b ∷ bs) = Some (first_word (b ∷ bs), behind_word (b ∷ bs))
+
 -- the word behind the spaces, and the tail behind it
 unfoldable pub word_at : List ℕ → Option (List ℕ × List ℕ)
-word_at tail = do
-  bytes ← behind_spaces tail
-  Some (first_word bytes, behind_word bytes)
+word_at tail = behind_spaces tail >>= split_word
 
 -- ## What one word says
 
@@ -75,8 +86,8 @@ instance_in (point ∷ digits) = number_in 32 digits
 
 unfoldable pub context_in : List ℕ → Option ContextId
 context_in text = do
-  entry ← number_in 64 (take (point_at text) text)
-  instance ← instance_in (drop (point_at text) text)
+  entry ← number_in 64 (take (place_of 46 text) text)
+  instance ← instance_in (drop (place_of 46 text) text)
   Some (record { entry = record { 0 = entry }; instance = instance })
 
 abbrev pub negative_in : List ℕ → Option ℤ
@@ -94,78 +105,114 @@ unfoldable pub code_in : List ℕ → Option ℤ
 code_in [] = None
 code_in (b ∷ bs) = if b == 45 then negative_in bs else positive_in (b ∷ bs)
 
+-- the text of bytes that are UTF-8
+unfoldable pub text_in : List ℕ → Option (List ℕ)
+text_in text = if is_utf8 text then Some text else None
+
+-- the value of a header, from the equals sign on
+abbrev pub value_in : List ℕ → Option (List ℕ)
+value_in [] = None
+value_in (sign ∷ value) = text_in value
+
+unfoldable pub header_in : List ℕ → Option (List ℕ × List ℕ)
+header_in text = do
+  name ← text_in (take (place_of 61 text) text)
+  value ← value_in (drop (place_of 61 text) text)
+  Some (name, value)
+
+unfoldable pub side_in : List ℕ → Option Side
+side_in text = if bytes_eq text (codes "in") then Some sides.In else if bytes_eq text (codes "out") then Some sides.Out else None
+
+abbrev pub has_in : List ℕ → Option Condition
+has_in text = after (codes "has:") text >>= λ name. (text_in name >>= λ name. Some (Has name))
+
+abbrev pub at_in : Option (List ℕ) → List ℕ → Option Condition
+at_in None text = has_in text
+at_in (Some address) text = text_in address >>= λ address. Some (At address)
+
+unfoldable pub condition_in : List ℕ → Option Condition
+condition_in text = if bytes_eq text (codes "any") then Some Any else at_in (after (codes "at:") text) text
+
+unfoldable pub verdict_in : List ℕ → Option Verdict
+verdict_in text = if bytes_eq text (codes "stop") then Some Stop else (after (codes "add:") text >>= λ header. (header_in header >>= λ header. Some (Add header.0 header.1)))
+
 -- what a word says
 abbrev pub token_in : (token : Token) → List ℕ → Option (TokenValue token)
 token_in (AWord word) text = if bytes_eq text word then Some tt else None
-token_in ANumber text = number_in 64 text
+token_in (ANumber bits) text = number_in bits text
 token_in AContext text = context_in text
-token_in AnAddress text = if is_address text then Some text else None
 token_in ACode text = code_in text
+token_in AText text = text_in text
+token_in AHeader text = header_in text
+token_in ASide text = side_in text
+token_in ACondition text = condition_in text
+token_in AVerdict text = verdict_in text
 
 -- the next word, and the tail behind it
 abbrev pub token_at : (token : Token) → List ℕ → Option (TokenValue token × List ℕ)
 token_at token tail = word_at tail >>= λ word. (token_in token word.0 >>= λ value. Some (value, word.1))
 
--- ## Bodies and texts
-
--- a text, by what stands before its second quote, and from there on
-abbrev pub closed_text : List ℕ → List ℕ → Option (Tree × List ℕ)
-closed_text inner [] = None
-closed_text inner (quote ∷ tail) = if is_quoted inner then Some (tree.text inner, tail) else None
-
--- a text, behind its first quote
-unfoldable pub quoted_at : List ℕ → Option (Tree × List ℕ)
-quoted_at bytes = closed_text (take (quote_at bytes) bytes) (drop (quote_at bytes) bytes)
-
-unfoldable pub int_in : List ℕ → Option ℤ
-int_in text = if is_int text then Some (pos (digits_value 10 text)) else None
-
-abbrev pub int_at : List ℕ → Option (Tree × List ℕ)
-int_at bytes = int_in (first_word bytes) >>= λ number. Some (tree.int number, behind_word bytes)
-
--- a body, at its first byte
-unfoldable pub content_at : List ℕ → Option (Tree × List ℕ)
-content_at [] = None
-content_at (b ∷ bs) = if b == 34 then quoted_at bs else int_at (b ∷ bs)
-
-unfoldable pub body_at : List ℕ → Option (Tree × List ℕ)
-body_at tail = do
-  bytes ← behind_spaces tail
-  content_at bytes
+-- ## Endings
 
 -- nothing but spaces is left
 unfoldable pub end_at : List ℕ → Option (Unit {0})
 end_at tail = if is_blank tail then Some tt else None
 
 -- the rest of the line
-unfoldable pub text_at : List ℕ → Option (List ℕ)
-text_at [] = Some []
-text_at (b ∷ bs) = do
-  text ← behind_spaces (b ∷ bs)
-  if is_quoted text then Some text else None
+unfoldable pub rest_at : List ℕ → Option (List ℕ)
+rest_at [] = Some []
+rest_at (b ∷ bs) = behind_spaces (b ∷ bs) >>= text_in
 
--- ## Pieces
+-- the body of a JSON text
+unfoldable pub body_in : List ℕ → Option Tree
+body_in text = json_of text >>= λ body. (if nat_le (tree_depth body) max_read_depth then Some body else None)
 
--- a piece of a kind, and the tail behind it
-abbrev pub value_at : (kind : Kind) → List ℕ → Option (Value kind × List ℕ)
-value_at (OneWord token) tail = token_at token tail
-value_at ABody tail = body_at tail
+-- the same behind one space
+unfoldable pub body_at : List ℕ → Option Tree
+body_at [] = None
+body_at (b ∷ bs) = if b == 32 then body_in bs else None
+
+-- the words that are left, in at most so many turns
+abbrev pub with_word : (List ℕ → Option (List (List ℕ))) → List ℕ → Option (List ℕ × List ℕ) → Option (List (List ℕ))
+with_word more tail None = end_at tail >>= λ _. Some []
+with_word more tail (Some word) = text_in word.0 >>= λ text. (more word.1 >>= λ texts. Some (text ∷ texts))
+
+unfoldable pub words_in : ℕ → List ℕ → Option (List (List ℕ))
+words_in zero tail = end_at tail >>= λ _. Some []
+words_in (suc turns) tail = with_word (words_in turns) tail (word_at tail)
+
+unfoldable pub words_at : List ℕ → Option (List (List ℕ))
+words_at tail = words_in (length tail) tail
+
+-- the form of a codec, behind its first word
+abbrev pub codec_form_by : List ℕ → List ℕ → Option CodecForm
+codec_form_by word tail =
+    if bytes_eq word (codes "copy") then (end_at tail >>= λ _. Some Copy)
+    else if bytes_eq word (codes "keep") then (words_at tail >>= λ keys. Some (KeepKeys keys))
+    else if bytes_eq word (codes "drop") then (words_at tail >>= λ keys. Some (DropKeys keys))
+    else if bytes_eq word (codes "wrap") then (token_at AText tail >>= λ key. (end_at key.1 >>= λ _. Some (Wrap key.0)))
+    else None
+
+unfoldable pub codec_form_at : List ℕ → Option CodecForm
+codec_form_at tail = word_at tail >>= λ word. codec_form_by word.0 word.1
 
 abbrev pub ending_at : (ending : Ending) → List ℕ → Option (EndValue ending)
 ending_at Nothing tail = end_at tail
-ending_at AText tail = text_at tail
+ending_at TheRest tail = rest_at tail
+ending_at ABody tail = body_at tail
+ending_at ACodecForm tail = codec_form_at tail
 
-abbrev pub values_at : (kinds : List Kind) (ending : Ending) → List ℕ → Option (Values kinds ending)
+abbrev pub values_at : (tokens : List Token) (ending : Ending) → List ℕ → Option (Values tokens ending)
 values_at [] ending tail = ending_at ending tail
-values_at (kind ∷ kinds) ending tail = value_at kind tail >>= λ x. (values_at kinds ending x.1 >>= λ xs. Some (x.0, xs))
+values_at (token ∷ tokens) ending tail = token_at token tail >>= λ x. (values_at tokens ending x.1 >>= λ xs. Some (x.0, xs))
 
 -- ## Options
 
 -- the option at the front of a tail, and the tail behind it
 unfoldable pub option_at : List ℕ → Option (List ℕ × List ℕ)
 option_at tail = do
-  word ← word_at tail
-  if begins_with 43 word.0 then Some word else None
+  bytes ← behind_spaces tail
+  if begins_with 43 bytes then Some (first_word bytes, behind_word bytes) else None
 
 -- the words of the options at the front, and the tail behind them
 pub record Taken : Type 0 where
@@ -184,32 +231,53 @@ options_in (suc turns) tail = with_option (options_in turns) tail (option_at tai
 unfoldable pub options_of : List ℕ → Taken
 options_of tail = options_in (length tail) tail
 
--- what one word says of an option: nothing where it has another name
-abbrev pub option_in : (option : Optional) → List ℕ → Option (TokenValue option.token)
-option_in option word = if bytes_eq (option_name word) option.name then token_in option.token (option_text word) else None
+-- whether a word has one of these names
+abbrev pub is_known : List (List ℕ) → List ℕ → Bool
+is_known names word = list_any (bytes_eq (option_name word)) names
 
--- what the words of one name say
-abbrev pub told_in : (option : Optional) → List (List ℕ) → Option (Option (TokenValue option.token))
-told_in option [] = Some None
-told_in option (word ∷ []) = token_in option.token (option_text word) >>= λ value. Some (Some value)
-told_in option (word ∷ another ∷ words) = None
+-- the tail behind the options, where all of them have these names
+unfoldable pub behind_options : List (List ℕ) → List ℕ → Option (List ℕ)
+behind_options names tail = if list_all (is_known names) (options_of tail).words then Some (options_of tail).rest else None
+
+-- the one text, if there is one
+abbrev pub one_of : List (List ℕ) → Option (Option (List ℕ))
+one_of [] = Some None
+one_of (text ∷ []) = Some (Some text)
+one_of (text ∷ another ∷ texts) = None
+
+-- what it says
+abbrev pub told_in : (token : Token) → Option (List ℕ) → Option (Option (TokenValue token))
+told_in token None = Some None
+told_in token (Some text) = token_in token text >>= λ value. Some (Some value)
+
+-- what each text says
+abbrev pub each_in : (token : Token) → List (List ℕ) → Option (List (TokenValue token))
+each_in token [] = Some []
+each_in token (text ∷ texts) = token_in token text >>= λ value. (each_in token texts >>= λ values. Some (value ∷ values))
+
+-- headers with one more, which is spelled by a text
+abbrev pub header_onto : List (List ℕ × List ℕ) → List ℕ → Option (List (List ℕ × List ℕ))
+header_onto headers text = header_in text >>= λ header. (if too_many (headers ++ header ∷ []) then None else Some (headers ++ header ∷ []))
+
+-- what the words of an option choose
+abbrev pub choice_in : (option : Optional) → List (List ℕ) → Option (Choice option)
+choice_in (One name token) words = one_of (texts_of name words) >>= told_in token
+choice_in (Many name token fit) words = each_in token (texts_of name words) >>= λ values. (if fit values then Some values else None)
 
 abbrev pub chosen_in : (options : List Optional) → List (List ℕ) → Option (Chosen options)
 chosen_in [] words = Some tt
-chosen_in (option ∷ options) words = told_in option (named option.name words) >>= λ value. (chosen_in options words >>= λ chosen. Some (value, chosen))
-
--- what the words of options choose, where all of them are known
-abbrev pub choice_in : (options : List Optional) → List (List ℕ) → Option (Chosen options)
-choice_in options words = if list_all (is_known options) words then chosen_in options words else None
+chosen_in (option ∷ options) words = choice_in option words >>= λ value. (chosen_in options words >>= λ chosen. Some (value, chosen))
 
 -- what the options at the front choose, and the tail behind them
 abbrev pub options_at : (options : List Optional) → List ℕ → Option (Chosen options × List ℕ)
-options_at options tail = choice_in options (options_of tail).words >>= λ chosen. Some (chosen, (options_of tail).rest)
+options_at [] tail = Some (tt, tail)
+options_at (option ∷ options) tail =
+    behind_options (map name_of (option ∷ options)) tail >>= λ rest. (chosen_in (option ∷ options) (options_of tail).words >>= λ chosen. Some (chosen, rest))
 
 -- ## Lines
 
 abbrev pub form_at : Form → List ℕ → Option Call
-form_at form tail = options_at form.options tail >>= λ x. (values_at form.kinds form.ending x.1 >>= λ values. Some (form.make x.0 values))
+form_at form tail = options_at form.options tail >>= λ x. (values_at form.tokens form.ending x.1 >>= λ values. Some (form.make x.0 values))
 
 -- the call of a line by its first word
 abbrev pub call_by : List Form → List ℕ → List ℕ → Option Call

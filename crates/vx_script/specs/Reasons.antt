@@ -11,9 +11,8 @@ use Rattle.vx_script.specs.Reading.{without_spaces, first_word, behind_word, opt
 -- the commands that later versions have
 abbrev pub later : List (List ℕ)
 later =
-    codes "loops" ∷ codes "deploy" ∷ codes "undeploy" ∷ codes "started" ∷ codes "stopped" ∷ codes "pause" ∷ codes "resume" ∷ codes "fetch" ∷ codes "timer" ∷ codes "every" ∷ codes "cancel"
-    ∷ codes "run" ∷ codes "block" ∷ codes "promise" ∷ codes "complete" ∷ codes "break" ∷ codes "compose" ∷ codes "await" ∷ codes "codec" ∷ codes "uncodec" ∷ codes "rule" ∷ codes "unrule"
-    ∷ codes "listen" ∷ codes "accepted" ∷ codes "open" ∷ codes "shut" ∷ codes "frame" ∷ codes "json" ∷ codes "out" ∷ codes "work" ∷ codes "close" ∷ []
+    codes "loops" ∷ codes "deploy" ∷ codes "undeploy" ∷ codes "started" ∷ codes "stopped" ∷ codes "timer" ∷ codes "every" ∷ codes "cancel" ∷ codes "run" ∷ codes "block" ∷ codes "promise" ∷ codes "complete"
+    ∷ codes "break" ∷ codes "compose" ∷ codes "await" ∷ codes "listen" ∷ codes "accepted" ∷ codes "open" ∷ codes "shut" ∷ codes "frame" ∷ codes "json" ∷ codes "out" ∷ codes "work" ∷ codes "close" ∷ []
 
 abbrev pub is_later : List ℕ → Bool
 is_later word = list_any (bytes_eq word) later
@@ -21,10 +20,7 @@ is_later word = list_any (bytes_eq word) later
 -- What later versions have besides: commands, each with an option or a first piece behind it.
 abbrev pub later_fronts : List (List ℕ × List ℕ)
 later_fronts =
-    (codes "register", codes "+limit:") ∷ (codes "send", codes "+h:") ∷ (codes "send", codes "+codec:") ∷ (codes "publish", codes "+h:") ∷ (codes "publish", codes "+codec:")
-    ∷ (codes "request", codes "+h:") ∷ (codes "request", codes "+codec:") ∷ (codes "request", codes "+once") ∷ (codes "reply", codes "+h:") ∷ (codes "reply", codes "+codec:")
-    ∷ (codes "ask", codes "+h:") ∷ (codes "ask", codes "+codec:") ∷ (codes "take", codes "loop") ∷ (codes "take", codes "pool") ∷ (codes "finish", codes "later")
-    ∷ (codes "finish", codes "value") ∷ (codes "finish", codes "fail") ∷ (codes "finish", codes "nomemory") ∷ []
+    (codes "request", codes "+once") ∷ (codes "take", codes "loop") ∷ (codes "take", codes "pool") ∷ (codes "finish", codes "later") ∷ (codes "finish", codes "value") ∷ (codes "finish", codes "fail") ∷ (codes "finish", codes "nomemory") ∷ []
 
 -- what a tail begins with: the names of its options, and the first word behind them
 abbrev pub fronts : List ℕ → List (List ℕ)

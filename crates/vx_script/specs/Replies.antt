@@ -5,6 +5,7 @@ use Rattle.vx_data.specs.declared.ids.EntryNo.{EntryNo}
 use Rattle.vx_data.specs.declared.ids.ContextId.{ContextId}
 use Rattle.vx_data.specs.declared.ids.ConsumerId.{ConsumerId}
 use Rattle.vx_data.specs.BodyText.{body_text, quoted}
+use Rattle.vx_data.specs.Tree.{Tree}
 use Rattle.vx_message.specs.declared.Message.{Message}
 use Rattle.vx_message.specs.declared.Owner.{Owner}
 use Rattle.vx_message.specs.declared.Owner.TheVariants as owners
@@ -42,18 +43,24 @@ refusal_text (refusals.TooLarge limit) = codes "refused 10 too large " ++ decima
 refusal_text refusals.NoMessage = codes "refused 11 no message"
 refusal_text refusals.NotRequest = codes "refused 12 not request"
 refusal_text (refusals.Late entry) = codes "refused 13 late " ++ decimal entry.0
+refusal_text refusals.BadCount = codes "refused 16 bad count"
 refusal_text refusals.BadDelay = codes "refused 17 bad delay"
+refusal_text refusals.NoCodec = codes "refused 19 no codec"
+refusal_text (refusals.CodecTaken entry) = codes "refused 20 codec taken " ++ decimal entry.0
+refusal_text refusals.NoRule = codes "refused 21 no rule"
 refusal_text refusals.Spent = codes "refused 30 spent"
 
 -- what a message reached
 abbrev pub to_text : To → List ℕ
-to_text reached.None = codes "none"
-to_text (reached.Consumer consumer) = decimal consumer.0.0
-to_text reached.Asker = codes "asker"
+to_text reached.None = codes "to none"
+to_text reached.Stopped = codes "stopped"
+to_text (reached.Lost consumer) = codes "lost " ++ decimal consumer.0.0
+to_text (reached.Consumer consumer) = codes "to " ++ decimal consumer.0.0
+to_text reached.Asker = codes "to asker"
 
 -- what was done with the message of this entry, and what it reached
 abbrev pub message_text : List ℕ → EntryNo → To → List ℕ
-message_text verb at to = verb ++ (codes " " ++ (decimal at.0 ++ (codes " to " ++ to_text to)))
+message_text verb at to = verb ++ (codes " " ++ (decimal at.0 ++ (codes " " ++ to_text to)))
 
 abbrev pub consumer_text : ConsumerId → List ℕ
 consumer_text consumer = codes " " ++ decimal consumer.0.0
@@ -65,9 +72,17 @@ all_text (consumer ∷ consumers) = flat_map consumer_text (consumer ∷ consume
 abbrev pub published_text : EntryNo → List ConsumerId → List ℕ
 published_text at consumers = codes "published " ++ (decimal at.0 ++ (codes " to" ++ all_text consumers))
 
+-- a word for each header: a plus sign, and the name and the value in quotes, with an equals sign between them
+abbrev pub header_text : List ℕ × List ℕ → List ℕ
+header_text header = codes "+" ++ (quoted header.0 ++ (codes "=" ++ (quoted header.1 ++ codes " ")))
+
+-- the headers of a message and its body
+abbrev pub content_text : List (List ℕ × List ℕ) → Tree → List ℕ
+content_text headers body = flat_map header_text headers ++ body_text body
+
 abbrev pub delivery_text : ConsumerId → Message → List ℕ
 delivery_text consumer message =
-    (if message.request then codes "request " else codes "deliver ") ++ (decimal consumer.0.0 ++ (codes " " ++ (decimal message.id.0.0 ++ (codes " " ++ body_text message.body))))
+    (if message.request then codes "request " else codes "deliver ") ++ (decimal consumer.0.0 ++ (codes " " ++ (decimal message.id.0.0 ++ (codes " " ++ content_text message.headers message.body))))
 
 -- the code of a failure is printed as it is, and the text of its receiver in quotes
 abbrev pub failure_text : FailureKind → ℤ → List ℕ → List ℕ
@@ -76,8 +91,8 @@ failure_text failures.NoHandlers code text = codes "no_handlers " ++ signed_deci
 failure_text failures.RecipientFailure code text = codes "recipient_failure " ++ (signed_decimal code ++ (codes " " ++ quoted text))
 
 abbrev pub outcome_text : Outcome → List ℕ
-outcome_text (outcomes.Ok body None) = codes "ok " ++ body_text body
-outcome_text (outcomes.Ok body (Some again)) = codes "again " ++ (decimal again.0.0 ++ (codes " " ++ body_text body))
+outcome_text (outcomes.Ok headers body None) = codes "ok " ++ content_text headers body
+outcome_text (outcomes.Ok headers body (Some again)) = codes "again " ++ (decimal again.0.0 ++ (codes " " ++ content_text headers body))
 outcome_text (outcomes.Failed failure) = failure_text failure.kind failure.code failure.text
 
 abbrev pub task_text : Task → List ℕ
@@ -92,6 +107,8 @@ reply_text at (replies.Consumer consumer) = codes "consumer " ++ decimal consume
 reply_text at (replies.Sent to) = message_text (codes "sent") at to
 reply_text at (replies.Published consumers) = published_text at consumers
 reply_text at (replies.Asked to) = message_text (codes "asked") at to
+reply_text at (replies.Codec codec) = codes "codec " ++ decimal codec.0.0
+reply_text at (replies.Rule rule) = codes "rule " ++ decimal rule.0.0
 reply_text at (replies.Task task) = task_text task
 reply_text at replies.Idle = codes "idle"
 reply_text at replies.Done = codes "ok"

@@ -24,6 +24,9 @@ pub enum LineFault {
     NoMemory,
 }
 
+/// A line in no form.
+pub const MISFIT: LineFault = LineFault::Misfit;
+
 impl From<NoMemory> for LineFault {
     ghost use Rattle.std.specs.Prelude.{◌≡◌};
     ghost use Rattle.vx_script.specs.declared.fault.LineFault.TheVariants.{NoMemory};

@@ -2,6 +2,7 @@
 #![tactic(auto)]
 
 mod command;
+mod ending;
 mod fault;
 mod laws;
 mod limit;
@@ -17,6 +18,7 @@ mod reply;
 mod running;
 mod status;
 mod text;
+mod token;
 mod word;
 
 pub use fault::LineWhy;
@@ -25,6 +27,3 @@ pub use limit::LIMIT;
 pub use reply::write_reply;
 pub use running::script;
 pub use status::Status;
-
-#[cfg(test)]
-mod tests;

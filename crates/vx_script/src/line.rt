@@ -1,116 +1,148 @@
 //! What a line says.
-ghost use Rattle.std.specs.Prelude.{◌≡◌};
-ghost use Rattle.vx_script.specs.Grammar.{message_forms, pass_form, context_form, register_form, unregister_form, advance_form, take_form, finish_form, send_form, publish_form, request_form, reply_form, fail_form, ask_form};
+ghost use Rattle.std.specs.Prelude.{◌≡◌, ◌++◌};
+ghost use Rattle.vx_script.specs.Grammar.{message_forms, rule_forms, pass_form, context_form, register_form, unregister_form, pause_form, resume_form, fetch_form, advance_form, take_form, finish_form, send_form, publish_form, request_form, reply_form, fail_form, ask_form, codec_form, uncodec_form, rule_form, unrule_form};
 ghost use Rattle.vx_script.specs.Reading.{Gives, form_at, call_by, call_at, command_at, said_at};
 
 use crate::command::Command;
-use crate::fault::LineFault;
-use crate::options::{no_options, timeout};
+use crate::fault::{LineFault, MISFIT};
+use crate::options::{limit, message_options, request_options};
 use crate::pass::pass;
-use crate::piece;
 use crate::reason::is_text;
 use crate::word::{split_word, trim};
+use crate::{ending, piece};
 use std::alloc::Global;
 use vx_call::{Call, End, Lane};
-use vx_data::{ConsumerId, EntryNo, MessageId, Moment};
+use vx_data::{ConsumerId, EntryNo, MessageId, Moment, RuleId};
 
 /// The timeout in ms of a request that names none.
 const TIMEOUT: u64 = 30_000;
 
+/// How many messages are held for a consumer that names no limit.
+const LIMIT: u32 = 1_000;
+
 fn new_pass(tail: &[u8]) -> Result<Call, LineFault>
     ensures { Gives (λ call. call) result (form_at pass_form tail.now) }
 {
-    let tail = no_options(tail)?;
-    piece::end(tail)?;
+    ending::end(tail)?;
     Ok(Call::NewPass)
 }
 
 fn context(tail: &[u8]) -> Result<Call, LineFault>
     ensures { Gives (λ call. call) result (form_at context_form tail.now) }
 {
-    let tail = no_options(tail)?;
-    piece::end(tail)?;
+    ending::end(tail)?;
     Ok(Call::NewContext)
 }
 
 fn register(alloc: Global, tail: &[u8]) -> Result<Call, LineFault>
     ensures { Gives (λ call. call) result (form_at register_form tail.now) }
 {
-    let tail = no_options(tail)?;
+    let (limit, tail) = limit(tail)?;
     let (context, tail) = piece::context(tail)?;
-    let (address, tail) = piece::address(alloc, tail)?;
-    piece::end(tail)?;
-    Ok(Call::Register { context, address })
+    let (address, tail) = piece::text(alloc, tail)?;
+    ending::end(tail)?;
+    Ok(Call::Register {
+        context,
+        address,
+        limit: limit.unwrap_or(LIMIT),
+    })
 }
 
 fn unregister(tail: &[u8]) -> Result<Call, LineFault>
     ensures { Gives (λ call. call) result (form_at unregister_form tail.now) }
 {
-    let tail = no_options(tail)?;
     let (consumer, tail) = piece::number(tail)?;
-    piece::end(tail)?;
+    ending::end(tail)?;
     Ok(Call::Unregister(ConsumerId(EntryNo(consumer))))
+}
+
+fn pause(tail: &[u8]) -> Result<Call, LineFault>
+    ensures { Gives (λ call. call) result (form_at pause_form tail.now) }
+{
+    let (consumer, tail) = piece::number(tail)?;
+    ending::end(tail)?;
+    Ok(Call::Pause(ConsumerId(EntryNo(consumer))))
+}
+
+fn resume(tail: &[u8]) -> Result<Call, LineFault>
+    ensures { Gives (λ call. call) result (form_at resume_form tail.now) }
+{
+    let (consumer, tail) = piece::number(tail)?;
+    ending::end(tail)?;
+    Ok(Call::Resume(ConsumerId(EntryNo(consumer))))
+}
+
+fn fetch(tail: &[u8]) -> Result<Call, LineFault>
+    ensures { Gives (λ call. call) result (form_at fetch_form tail.now) }
+{
+    let (consumer, tail) = piece::number(tail)?;
+    let (count, tail) = piece::small_number(tail)?;
+    ending::end(tail)?;
+    Ok(Call::Fetch(ConsumerId(EntryNo(consumer)), count))
 }
 
 fn advance(tail: &[u8]) -> Result<Call, LineFault>
     ensures { Gives (λ call. call) result (form_at advance_form tail.now) }
 {
-    let tail = no_options(tail)?;
     let (moment, tail) = piece::number(tail)?;
-    piece::end(tail)?;
+    ending::end(tail)?;
     Ok(Call::Advance(Moment::at(moment)))
 }
 
 fn take(tail: &[u8]) -> Result<Call, LineFault>
     ensures { Gives (λ call. call) result (form_at take_form tail.now) }
 {
-    let tail = no_options(tail)?;
     let tail = piece::keyword(b"own", tail)?;
     let (context, tail) = piece::context(tail)?;
-    piece::end(tail)?;
+    ending::end(tail)?;
     Ok(Call::Take(Lane::Own(context)))
 }
 
 fn finish(tail: &[u8]) -> Result<Call, LineFault>
     ensures { Gives (λ call. call) result (form_at finish_form tail.now) }
 {
-    let tail = no_options(tail)?;
-    piece::end(tail)?;
+    ending::end(tail)?;
     Ok(Call::Finish(End::Done))
 }
 
 fn send(alloc: Global, tail: &[u8]) -> Result<Call, LineFault>
     ensures { Gives (λ call. call) result (form_at send_form tail.now) }
 {
-    let tail = no_options(tail)?;
-    let (address, tail) = piece::address(alloc, tail)?;
-    let (body, tail) = piece::body(alloc, tail)?;
-    piece::end(tail)?;
-    Ok(Call::Send { address, body })
+    let (options, tail) = message_options(alloc, tail)?;
+    let (address, tail) = piece::text(alloc, tail)?;
+    let body = ending::body(alloc, tail)?;
+    Ok(Call::Send {
+        address,
+        body,
+        options,
+    })
 }
 
 fn publish(alloc: Global, tail: &[u8]) -> Result<Call, LineFault>
     ensures { Gives (λ call. call) result (form_at publish_form tail.now) }
 {
-    let tail = no_options(tail)?;
-    let (address, tail) = piece::address(alloc, tail)?;
-    let (body, tail) = piece::body(alloc, tail)?;
-    piece::end(tail)?;
-    Ok(Call::Publish { address, body })
+    let (options, tail) = message_options(alloc, tail)?;
+    let (address, tail) = piece::text(alloc, tail)?;
+    let body = ending::body(alloc, tail)?;
+    Ok(Call::Publish {
+        address,
+        body,
+        options,
+    })
 }
 
 fn request(alloc: Global, tail: &[u8]) -> Result<Call, LineFault>
     ensures { Gives (λ call. call) result (form_at request_form tail.now) }
 {
-    let (timeout, tail) = timeout(tail)?;
+    let (options, timeout, tail) = request_options(alloc, tail)?;
     let (context, tail) = piece::context(tail)?;
-    let (address, tail) = piece::address(alloc, tail)?;
-    let (body, tail) = piece::body(alloc, tail)?;
-    piece::end(tail)?;
+    let (address, tail) = piece::text(alloc, tail)?;
+    let body = ending::body(alloc, tail)?;
     Ok(Call::Request {
         context,
         address,
         body,
+        options,
         timeout: timeout.unwrap_or(TIMEOUT),
     })
 }
@@ -118,23 +150,22 @@ fn request(alloc: Global, tail: &[u8]) -> Result<Call, LineFault>
 fn reply(alloc: Global, tail: &[u8]) -> Result<Call, LineFault>
     ensures { Gives (λ call. call) result (form_at reply_form tail.now) }
 {
-    let tail = no_options(tail)?;
+    let (options, tail) = message_options(alloc, tail)?;
     let (message, tail) = piece::number(tail)?;
-    let (body, tail) = piece::body(alloc, tail)?;
-    piece::end(tail)?;
+    let body = ending::body(alloc, tail)?;
     Ok(Call::Reply {
         message: MessageId(EntryNo(message)),
         body,
+        options,
     })
 }
 
 fn fail(alloc: Global, tail: &[u8]) -> Result<Call, LineFault>
     ensures { Gives (λ call. call) result (form_at fail_form tail.now) }
 {
-    let tail = no_options(tail)?;
     let (message, tail) = piece::number(tail)?;
     let (code, tail) = piece::code(tail)?;
-    let text = piece::text(alloc, tail)?;
+    let text = ending::rest(alloc, tail)?;
     Ok(Call::Fail {
         message: MessageId(EntryNo(message)),
         code,
@@ -145,22 +176,77 @@ fn fail(alloc: Global, tail: &[u8]) -> Result<Call, LineFault>
 fn ask(alloc: Global, tail: &[u8]) -> Result<Call, LineFault>
     ensures { Gives (λ call. call) result (form_at ask_form tail.now) }
 {
-    let (timeout, tail) = timeout(tail)?;
+    let (options, timeout, tail) = request_options(alloc, tail)?;
     let (message, tail) = piece::number(tail)?;
     let (context, tail) = piece::context(tail)?;
-    let (body, tail) = piece::body(alloc, tail)?;
-    piece::end(tail)?;
+    let body = ending::body(alloc, tail)?;
     Ok(Call::ReplyRequest {
         message: MessageId(EntryNo(message)),
         context,
         body,
+        options,
         timeout: timeout.unwrap_or(TIMEOUT),
     })
 }
 
-/// The call of a message, by its first word.
+fn codec(alloc: Global, tail: &[u8]) -> Result<Call, LineFault>
+    ensures { Gives (λ call. call) result (form_at codec_form tail.now) }
+{
+    let (name, tail) = piece::text(alloc, tail)?;
+    let form = ending::codec_form(alloc, tail)?;
+    Ok(Call::AddCodec { name, form })
+}
+
+fn uncodec(alloc: Global, tail: &[u8]) -> Result<Call, LineFault>
+    ensures { Gives (λ call. call) result (form_at uncodec_form tail.now) }
+{
+    let (name, tail) = piece::text(alloc, tail)?;
+    ending::end(tail)?;
+    Ok(Call::RemoveCodec(name))
+}
+
+fn rule(alloc: Global, tail: &[u8]) -> Result<Call, LineFault>
+    ensures { Gives (λ call. call) result (form_at rule_form tail.now) }
+{
+    let (side, tail) = piece::side(tail)?;
+    let (condition, tail) = piece::condition(alloc, tail)?;
+    let (verdict, tail) = piece::verdict(alloc, tail)?;
+    ending::end(tail)?;
+    Ok(Call::AddRule {
+        side,
+        condition,
+        verdict,
+    })
+}
+
+fn unrule(tail: &[u8]) -> Result<Call, LineFault>
+    ensures { Gives (λ call. call) result (form_at unrule_form tail.now) }
+{
+    let (rule, tail) = piece::number(tail)?;
+    ending::end(tail)?;
+    Ok(Call::RemoveRule(RuleId(EntryNo(rule))))
+}
+
+/// The call of a line about codecs and rules, by its first word.
+fn rule_call(alloc: Global, word: &[u8], tail: &[u8]) -> Result<Call, LineFault>
+    ensures { Gives (λ call. call) result (call_by rule_forms word.now tail.now) }
+{
+    if word == b"codec".as_slice() {
+        codec(alloc, tail)
+    } else if word == b"uncodec".as_slice() {
+        uncodec(alloc, tail)
+    } else if word == b"rule".as_slice() {
+        rule(alloc, tail)
+    } else if word == b"unrule".as_slice() {
+        unrule(tail)
+    } else {
+        Err(MISFIT)
+    }
+}
+
+/// The call of a line about messages, or about codecs and rules, by its first word.
 fn message_call(alloc: Global, word: &[u8], tail: &[u8]) -> Result<Call, LineFault>
-    ensures { Gives (λ call. call) result (call_by message_forms word.now tail.now) }
+    ensures { Gives (λ call. call) result (call_by (message_forms ++ rule_forms) word.now tail.now) }
 {
     if word == b"send".as_slice() {
         send(alloc, tail)
@@ -175,7 +261,7 @@ fn message_call(alloc: Global, word: &[u8], tail: &[u8]) -> Result<Call, LineFau
     } else if word == b"ask".as_slice() {
         ask(alloc, tail)
     } else {
-        Err(LineFault::Misfit)
+        rule_call(alloc, word, tail)
     }
 }
 
@@ -192,6 +278,12 @@ fn call(alloc: Global, word: &[u8], tail: &[u8]) -> Result<Call, LineFault>
         register(alloc, tail)
     } else if word == b"unregister".as_slice() {
         unregister(tail)
+    } else if word == b"pause".as_slice() {
+        pause(tail)
+    } else if word == b"resume".as_slice() {
+        resume(tail)
+    } else if word == b"fetch".as_slice() {
+        fetch(tail)
     } else if word == b"advance".as_slice() {
         advance(tail)
     } else if word == b"take".as_slice() {
@@ -208,7 +300,7 @@ fn call(alloc: Global, word: &[u8], tail: &[u8]) -> Result<Call, LineFault>
 fn command(alloc: Global, passes: u64, bytes: &[u8]) -> Result<Command, LineFault>
     ensures { Gives (λ command. command) result (command_at passes bytes.now) }
 {
-    let (pass, bytes) = pass(passes, bytes).ok_or(LineFault::Misfit)?;
+    let (pass, bytes) = pass(passes, bytes).ok_or(MISFIT)?;
     let (word, tail) = split_word(bytes);
     let call = call(alloc, word, tail)?;
     Ok(Command { pass, call })
@@ -220,7 +312,7 @@ pub fn read_line(alloc: Global, passes: u64, line: &[u8]) -> Result<Option<Comma
     ensures { Gives (λ said. said) result (said_at passes line.now) }
 {
     if !is_text(line) {
-        return Err(LineFault::Misfit);
+        return Err(MISFIT);
     }
     if line.is_empty() || line[0] == b'#' {
         return Ok(None);

@@ -1,9 +1,9 @@
 //! Numbers, as words spell them.
-ghost use Rattle.std.specs.Prelude.{◌≡◌, ◌<◌, length};
+ghost use Rattle.std.specs.Prelude.{◌≡◌};
 ghost use Rattle.std.specs.List.{list_all};
 ghost use Rattle.std.specs.Char.{is_ascii_digit};
 ghost use Rattle.vx_script.specs.Grammar as grammar;
-ghost use Rattle.vx_script.specs.Reading.{number_in, behind_minus, code_in, int_in};
+ghost use Rattle.vx_script.specs.Reading.{number_in, behind_minus, code_in};
 
 fn are_digits(text: &[u8]) -> bool
     ensures { result ≡ list_all is_ascii_digit text.now }
@@ -66,34 +66,6 @@ pub fn code(text: &[u8]) -> Option<i32>
     }
     match std::str::from_utf8(text) {
         Ok(numeral) => numeral.parse::<i32>().ok(),
-        Err(_) => None,
-    }
-}
-
-fn is_unpadded(text: &[u8]) -> bool
-    requires { 0 < length text.now }
-    ensures { result ≡ grammar.is_unpadded text.now }
-{
-    text[0] != b'0' || text.len() == 1
-}
-
-/// Whether it is 1 to 18 digits, of which no zero stands before another digit.
-fn is_int(text: &[u8]) -> bool
-    ensures { result ≡ grammar.is_int text.now }
-{
-    !text.is_empty() && text.len() <= 18 && are_digits(text) && is_unpadded(text)
-}
-
-/// The number that such digits spell.
-#[tactic(auto, unfolding(crate::specs::Reading::int_in))]
-pub fn int(text: &[u8]) -> Option<i64>
-    ensures { result ≡ int_in text.now }
-{
-    if !is_int(text) {
-        return None;
-    }
-    match std::str::from_utf8(text) {
-        Ok(digits) => digits.parse::<i64>().ok(),
         Err(_) => None,
     }
 }

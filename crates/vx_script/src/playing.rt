@@ -57,6 +57,25 @@ fn make(hub: &mut Hub, pass: PassNo, call: Call) -> Result<Reply, NoMemory>
     }
 }
 
+/// Writes the line of a reply. The sink has all of it after an `Ok`, and a front of it else.
+fn write_one<K: Sink>(
+    alloc: Global,
+    at: EntryNo,
+    reply: &Reply,
+    sink: &mut K,
+) -> Result<(), SinkFault>
+    ensures ok { OnOk result (Appends (K.held sink.old) (K.held sink.new) (reply_line at reply.now)) }
+    ensures err { OnErr result (AppendsFront (K.held sink.old) (K.held sink.new) (reply_line at reply.now)) }
+    ensures later { K.faults sink.old ≤ K.faults sink.new }
+    ensures cause { IsErrOf result SinkFault.Failed → Rose (K.faults sink.old) (K.faults sink.new) }
+{
+    let mut line = Vec::new(alloc);
+    match write_reply(alloc, at, reply, &mut line) {
+        Ok(()) => write_all(sink, &line),
+        Err(_) => Err(SinkFault::NoMemory),
+    }
+}
+
 /// Makes one call, and writes the line of its reply. The sink has all of it after an `Ok`, and a
 /// front of it else.
 fn make_one<K: Sink>(
@@ -72,13 +91,8 @@ fn make_one<K: Sink>(
     ensures later { K.faults sink.old ≤ K.faults sink.new }
     ensures cause { IsErrOf result SinkFault.Failed → Rose (K.faults sink.old) (K.faults sink.new) }
 {
-    let reply = match make(hub, command.pass, command.call) {
-        Ok(reply) => reply,
-        Err(_) => return Err(SinkFault::NoMemory),
-    };
-    let mut line = Vec::new(alloc);
-    match write_reply(alloc, at, &reply, &mut line) {
-        Ok(()) => write_all(sink, &line),
+    match make(hub, command.pass, command.call) {
+        Ok(reply) => write_one(alloc, at, &reply, sink),
         Err(_) => Err(SinkFault::NoMemory),
     }
 }

@@ -7,14 +7,17 @@ ghost use Rattle.vx_script.specs.Reasons as reasons;
 use crate::fault::LineWhy;
 use crate::options::has_front;
 use crate::pass::pass;
-use crate::word::{split_word, trim};
+use crate::word::{is_among, split_word, trim};
 
 /// The commands of this version.
-const BUILT: [&str; 13] = [
+const BUILT: [&str; 20] = [
     "pass",
     "context",
     "register",
     "unregister",
+    "pause",
+    "resume",
+    "fetch",
     "advance",
     "take",
     "finish",
@@ -24,30 +27,22 @@ const BUILT: [&str; 13] = [
     "reply",
     "fail",
     "ask",
+    "codec",
+    "uncodec",
+    "rule",
+    "unrule",
 ];
 
 /// The commands of later versions.
-const LATER: [&str; 31] = [
-    "loops", "deploy", "undeploy", "started", "stopped", "pause", "resume", "fetch", "timer",
-    "every", "cancel", "run", "block", "promise", "complete", "break", "compose", "await", "codec",
-    "uncodec", "rule", "unrule", "listen", "accepted", "open", "shut", "frame", "json", "out",
-    "work", "close",
+const LATER: [&str; 24] = [
+    "loops", "deploy", "undeploy", "started", "stopped", "timer", "every", "cancel", "run",
+    "block", "promise", "complete", "break", "compose", "await", "listen", "accepted", "open",
+    "shut", "frame", "json", "out", "work", "close",
 ];
 
 /// What later versions have behind a command of this version: an option, or a first piece.
-const LATER_FRONTS: [(&str, &str); 18] = [
-    ("register", "+limit:"),
-    ("send", "+h:"),
-    ("send", "+codec:"),
-    ("publish", "+h:"),
-    ("publish", "+codec:"),
-    ("request", "+h:"),
-    ("request", "+codec:"),
+const LATER_FRONTS: [(&str, &str); 7] = [
     ("request", "+once"),
-    ("reply", "+h:"),
-    ("reply", "+codec:"),
-    ("ask", "+h:"),
-    ("ask", "+codec:"),
     ("take", "loop"),
     ("take", "pool"),
     ("finish", "later"),
@@ -56,24 +51,17 @@ const LATER_FRONTS: [(&str, &str); 18] = [
     ("finish", "nomemory"),
 ];
 
-/// Whether the word is one of these.
-fn is_among(word: &[u8], words: &[&str]) -> bool
-    ensures { result ≡ list_any (λ other. bytes_eq word.now other.now) words.now }
-{
-    words.iter().any(|other| word == other.as_bytes())
-}
-
 fn is_built(word: &[u8]) -> bool
     ensures { result ≡ reasons.is_built word.now }
 {
-    let built: [&str; 13] = BUILT;
+    let built: [&str; 20] = BUILT;
     is_among(word, built.as_slice())
 }
 
 fn is_later(word: &[u8]) -> bool
     ensures { result ≡ reasons.is_later word.now }
 {
-    let later: [&str; 31] = LATER;
+    let later: [&str; 24] = LATER;
     is_among(word, later.as_slice())
 }
 
@@ -89,7 +77,7 @@ fn begins_as(word: &[u8], tail: &[u8], fronts: &[(&str, &str)]) -> bool
 fn has_later_front(word: &[u8], tail: &[u8]) -> bool
     ensures { result ≡ reasons.has_later_front word.now tail.now }
 {
-    let fronts: [(&str, &str); 18] = LATER_FRONTS;
+    let fronts: [(&str, &str); 7] = LATER_FRONTS;
     begins_as(word, tail, fronts.as_slice())
 }
 

@@ -6,7 +6,7 @@ ghost use Rattle.vx_script.specs.Replies as texts;
 use crate::text::append;
 use std::alloc::Global;
 use vx_call::{Refusal, Reply, Task, To};
-use vx_data::{Body, ConsumerId, ContextId, EntryNo, List, MessageId, NoMemory};
+use vx_data::{Body, ConsumerId, ContextId, EntryNo, Headers, List, MessageId, NoMemory, Text};
 use vx_json::{write_body, write_text};
 use vx_message::{Failure, FailureKind, Message, Outcome, Owner};
 
@@ -31,14 +31,13 @@ fn write_number(alloc: Global, word: &str, number: u64, into: &mut Vec<u8>) -> R
 }
 
 fn write_to(alloc: Global, to: To, into: &mut Vec<u8>) -> Result<(), NoMemory>
-    ensures { OnOk result (into.new.items ≡ into.old.items ++ (codes " to " ++ texts.to_text to)) }
+    ensures { OnOk result (into.new.items ≡ into.old.items ++ (codes " " ++ texts.to_text to)) }
 {
     match to {
         To::None => append(b" to none", into),
-        To::Consumer(consumer) => {
-            let text = format!(in alloc; " to {}", consumer.0.0)?;
-            append(text.as_bytes(), into)
-        }
+        To::Stopped => append(b" stopped", into),
+        To::Lost(consumer) => write_number(alloc, " lost", consumer.0.0, into),
+        To::Consumer(consumer) => write_number(alloc, " to", consumer.0.0, into),
         To::Asker => append(b" to asker", into),
     }
 }
@@ -93,6 +92,34 @@ fn write_published(
     }
 }
 
+/// Appends a header: a plus sign, its name and its value as JSON texts, and a space.
+fn write_header(header: &(Text, Text), into: &mut Vec<u8>) -> Result<(), NoMemory>
+    ensures { OnOk result (into.new.items ≡ into.old.items ++ texts.header_text header.now) }
+{
+    append(b"+", into)?;
+    write_text(&header.0, into)?;
+    append(b"=", into)?;
+    write_text(&header.1, into)?;
+    append(b" ", into)
+}
+
+fn write_headers(headers: &[(Text, Text)], into: &mut Vec<u8>) -> Result<(), NoMemory>
+    ensures { OnOk result (into.new.items ≡ into.old.items ++ flat_map texts.header_text headers.now) }
+{
+    for header in headers {
+        write_header(header, into)?;
+    }
+    Ok(())
+}
+
+/// Appends the headers of a message and its body.
+fn write_content(headers: &Headers, body: &Body, into: &mut Vec<u8>) -> Result<(), NoMemory>
+    ensures { OnOk result (into.new.items ≡ into.old.items ++ texts.content_text headers.now body.now) }
+{
+    write_headers(headers.pairs(), into)?;
+    write_body(body, into)
+}
+
 fn write_delivery(
     alloc: Global,
     consumer: ConsumerId,
@@ -107,16 +134,17 @@ fn write_delivery(
         format!(in alloc; "deliver {} {} ", consumer.0.0, message.id.0.0)?
     };
     append(front.as_bytes(), into)?;
-    write_body(&message.body, into)
+    write_content(&message.headers, &message.body, into)
 }
 
-fn write_reply_body(
+fn write_reply_content(
     alloc: Global,
+    headers: &Headers,
     body: &Body,
     again: Option<MessageId>,
     into: &mut Vec<u8>,
 ) -> Result<(), NoMemory>
-    ensures { OnOk result (into.new.items ≡ into.old.items ++ texts.outcome_text (Outcome.Ok body.now again)) }
+    ensures { OnOk result (into.new.items ≡ into.old.items ++ texts.outcome_text (Outcome.Ok headers.now body.now again)) }
 {
     match again {
         None => append(b"ok ", into)?,
@@ -125,7 +153,7 @@ fn write_reply_body(
             append(front.as_bytes(), into)?;
         }
     }
-    write_body(body, into)
+    write_content(headers, body, into)
 }
 
 fn write_failure(alloc: Global, failure: &Failure, into: &mut Vec<u8>) -> Result<(), NoMemory>
@@ -159,7 +187,11 @@ fn write_outcome(
     let front = format!(in alloc; "outcome {} ", request.0.0)?;
     append(front.as_bytes(), into)?;
     match outcome {
-        Outcome::Ok { body, again } => write_reply_body(alloc, body, *again, into),
+        Outcome::Ok {
+            headers,
+            body,
+            again,
+        } => write_reply_content(alloc, headers, body, *again, into),
         Outcome::Failed(failure) => write_failure(alloc, failure, into),
     }
 }
@@ -202,7 +234,13 @@ fn write_refusal(alloc: Global, refusal: Refusal, into: &mut Vec<u8>) -> Result<
         Refusal::NoMessage => append(b"refused 11 no message", into),
         Refusal::NotRequest => append(b"refused 12 not request", into),
         Refusal::Late(entry) => write_number(alloc, "refused 13 late", entry.0, into),
+        Refusal::BadCount => append(b"refused 16 bad count", into),
         Refusal::BadDelay => append(b"refused 17 bad delay", into),
+        Refusal::NoCodec => append(b"refused 19 no codec", into),
+        Refusal::CodecTaken(entry) => {
+            write_number(alloc, "refused 20 codec taken", entry.0, into)
+        }
+        Refusal::NoRule => append(b"refused 21 no rule", into),
         Refusal::Spent => append(b"refused 30 spent", into),
     }
 }
@@ -217,6 +255,8 @@ fn write_line(alloc: Global, at: EntryNo, reply: &Reply, into: &mut Vec<u8>) -> 
         Reply::Sent(to) => write_message(alloc, "sent", at, *to, into),
         Reply::Published(consumers) => write_published(alloc, at, consumers, into),
         Reply::Asked(to) => write_message(alloc, "asked", at, *to, into),
+        Reply::Codec(codec) => write_number(alloc, "codec", codec.0.0, into),
+        Reply::Rule(rule) => write_number(alloc, "rule", rule.0.0, into),
         Reply::Task(task) => write_task(alloc, task, into),
         Reply::Idle => append(b"idle", into),
         Reply::Done => append(b"ok", into),

@@ -1,5 +1,8 @@
 //! Words and spaces. A tail is what is left behind a word: it is empty or begins with a space.
 ghost use Rattle.std.specs.Prelude.{◌≡◌, ◌≤◌, length, option_map};
+ghost use Rattle.std.specs.List.{list_any};
+ghost use Rattle.std.specs.Str.{bytes_eq};
+ghost use Rattle.vx_json.specs.Reading as json;
 ghost use Rattle.vx_script.specs.Reading as reading;
 ghost use Rattle.vx_script.specs.Reading.{behind_spaces, word_at};
 
@@ -25,6 +28,26 @@ fn spaces_len(bytes: &[u8]) -> usize
         }
     }
     bytes.len()
+}
+
+/// How many bytes stand before the first of this one.
+pub fn place_of(letter: u8, bytes: &[u8]) -> usize
+    ensures value { result ≡ reading.place_of letter bytes.now }
+    ensures within { result ≤ length bytes.now }
+{
+    for (i, b) in bytes.iter().enumerate() {
+        if *b == letter {
+            return i;
+        }
+    }
+    bytes.len()
+}
+
+/// What stands behind a front.
+pub fn after<'a>(front: &[u8], bytes: &'a [u8]) -> Option<&'a [u8]>
+    ensures { option_map (λ x. x.now) result ≡ json.after front.now bytes.entry.now }
+{
+    bytes.strip_prefix(front)
 }
 
 /// The word at the front, and the tail behind it.
@@ -61,6 +84,15 @@ pub fn skip_spaces(tail: &[u8]) -> Option<&[u8]>
 pub fn word(tail: &[u8]) -> Option<(&[u8], &[u8])>
     ensures { option_map (λ x. (x.0.now, x.1.now)) result ≡ word_at tail.now }
 {
-    let bytes = skip_spaces(tail)?;
-    Some(split_word(bytes))
+    match skip_spaces(tail)? {
+        [] => None,
+        bytes => Some(split_word(bytes)),
+    }
+}
+
+/// Whether the word is one of these.
+pub fn is_among(word: &[u8], words: &[&str]) -> bool
+    ensures { result ≡ list_any (λ other. bytes_eq word.now other.now) words.now }
+{
+    words.iter().any(|other| word == other.as_bytes())
 }

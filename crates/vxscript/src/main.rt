@@ -3,6 +3,9 @@
 //! says how.
 #![tactic(auto)]
 
+#[cfg(test)]
+mod tests;
+
 use std::alloc::Global;
 use std::env::{self, Env};
 use std::io::{self, Write};

@@ -1,4 +1,7 @@
-ghost use Rattle.std.specs.Prelude.{◌≡◌, ◌<◌, ◌≤◌, ◌+◌, [], ◌∷◌, ◌++◌, ℕ};
+ghost use Rattle.std.specs.Prelude.{◌≡◌, ◌<◌, ◌≤◌, ◌+◌, [], ◌∷◌, ◌++◌, ℕ, IfOk};
+ghost use Rattle.vx_data.specs.Bodies.{tree_depth};
+ghost use Rattle.vx_message.specs.declared.Outcome.TheVariants as outcomes;
+ghost use Rattle.vx_core_bus.specs.Stores.{coded_in};
 ghost use Rattle.vx_message.specs.declared.ItemKind.TheVariants as kinds;
 ghost use Rattle.vx_call.specs.declared.reply.Task.TheVariants as tasks;
 ghost use Rattle.vx_call.specs.Settled as machine;
@@ -6,9 +9,9 @@ ghost use Rattle.vx_core_bus.specs.Stands.{HavePlaces, HaveRoom};
 ghost use Rattle.vx_core_bus.specs.Ending.{Settles};
 
 use crate::bus::Bus;
-use vx_call::Task;
+use vx_call::{Options, Task};
 use vx_context::Contexts;
-use vx_data::{ContextId, EntryNo, MessageId, Text};
+use vx_data::{Body, ContextId, EntryNo, MessageId, NoMemory, Text};
 use vx_message::{Failure, FailureKind, Item, ItemKind, Outcome};
 use vx_timer::Timers;
 
@@ -31,6 +34,23 @@ pub fn timed_out() -> Outcome
         kind: FailureKind::Timeout,
         code: -1,
         text: Text::constant("timeout"),
+    })
+}
+
+/// The outcome of a request that is replied to: a copy of the headers, and of the body as its codec leaves it.
+pub fn replied(
+    bus: &Bus,
+    body: &Body,
+    options: &Options,
+    again: Option<MessageId>,
+) -> Result<Outcome, NoMemory>
+    requires { tree_depth body.now ≤ 100 }
+    ensures { IfOk result (λ outcome. outcome ≡ outcomes.Ok options.now.headers (coded_in bus.now.codecs options.now.codec body.now) again) }
+{
+    Ok(Outcome::Ok {
+        headers: options.headers.copy(bus.alloc())?,
+        body: bus.coded(body, options)?,
+        again,
     })
 }
 

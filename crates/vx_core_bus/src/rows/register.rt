@@ -1,7 +1,7 @@
 ghost use Rattle.std.specs.Prelude.{◌≡◌, ◌<◌, ◌≤◌, ◌+◌, ◌^◌, List, ℕ, IfOk, IfErr, OnOk, OnErr};
 ghost use Rattle.vx_call.specs.declared.history.Traced.{Traced};
 ghost use Rattle.vx_context.specs.Stands.{IsNext};
-ghost use Rattle.vx_core_bus.specs.Stands.{StoresStand, Follows, HavePlaces, HaveRoom, AreOfOneHistory, GivesTurn};
+ghost use Rattle.vx_core_bus.specs.Stands.{StoresStand, Follows, HavePlaces};
 
 use crate::bus::Bus;
 use crate::refusals::register_refusal;
@@ -19,14 +19,15 @@ pub fn register(
     pass: PassNo,
     context: ContextId,
     address: Text,
+    limit: u32,
 ) -> Result<Reply, Unmade>
     requires places { HavePlaces contexts.now bus.old }
-    ensures ok { IfOk result (λ reply. (history : List Traced) → StoresStand contexts.now timers.now bus.old history → IsNext at history → Follows contexts.now timers.now bus.new history pass (Call.Register context address) reply) }
+    ensures ok { IfOk result (λ reply. (history : List Traced) → StoresStand contexts.now timers.now bus.old history → IsNext at history → Follows contexts.now timers.now bus.new history pass (Call.Register context address limit) reply) }
     ensures err { OnErr result ((history : List Traced) → StoresStand contexts.now timers.now bus.old history → StoresStand contexts.now timers.now bus.new history) }
-    ensures back { IfErr result (λ unmade. unmade.call ≡ Call.Register context address) }
+    ensures back { IfErr result (λ unmade. unmade.call ≡ Call.Register context address limit) }
     ensures places { HavePlaces contexts.now bus.new }
 {
-    if let Some(refusal) = register_refusal(contexts, pass, context, &address) {
+    if let Some(refusal) = register_refusal(contexts, pass, context, &address, limit) {
         return Ok(Reply::Refused(refusal));
     }
     let id = ConsumerId(at);
@@ -34,6 +35,7 @@ pub fn register(
         id,
         context,
         address,
+        limit,
     }) {
         Ok(()) => Ok(Reply::Consumer(id)),
         Err(
@@ -41,9 +43,14 @@ pub fn register(
                 id: _,
                 context,
                 address,
+                limit,
             },
         ) => Err(Unmade {
-            call: Call::Register { context, address },
+            call: Call::Register {
+                context,
+                address,
+                limit,
+            },
         }),
     }
 }

@@ -1,22 +1,22 @@
-ghost use Rattle.std.specs.Prelude.{◌≡◌, ◌<◌, ◌≤◌, ◌+◌, ◌-◌, ◌^◌, ◌&&◌, List, ℕ, false, not, min, if◌then◌else◌, IfOk, IfErr, OnOk, OnErr};
-ghost use Rattle.std.specs.Option.{option_map};
-ghost use Rattle.std.specs.Str.{bytes_eq};
+ghost use Rattle.std.specs.Prelude.{◌≡◌, ◌<◌, ◌≤◌, ◌^◌, List, length, None, IfOk, IfErr, OnErr};
+ghost use Rattle.vx_data.specs.Bodies.{tree_depth};
+ghost use Rattle.vx_data.specs.HeaderLists.{header_bytes};
+ghost use Rattle.vx_data.specs.declared.ids.ConsumerId.{ConsumerId};
 ghost use Rattle.vx_timer.specs.declared.timers.Timer.{Timer};
+ghost use Rattle.vx_call.specs.declared.call.Call.TheVariants as calls;
+ghost use Rattle.vx_call.specs.declared.reply.Reply.TheVariants as replies;
+ghost use Rattle.vx_call.specs.declared.reply.To.TheVariants as reached;
 ghost use Rattle.vx_call.specs.declared.history.Traced.{Traced};
-ghost use Rattle.vx_data.specs.declared.ids.MessageId.{MessageId};
-ghost use Rattle.vx_ring.specs.Rings.{is_empty, consumers_at, choices_at};
-ghost use Rattle.vx_request.specs.Stores.{given_at};
-ghost use Rattle.vx_context.specs.Stands.{ContextsStand, IsNext};
-ghost use Rattle.vx_call.specs.Choices.{choice};
-ghost use Rattle.vx_core_bus.specs.Stores.{recipient_of};
-ghost use Rattle.vx_core_bus.specs.Stands.{StoresStand, Follows, BusStands, HavePlaces, HaveRoom, AreOfOneHistory, IsBusOfHistory, GivesTurn};
+ghost use Rattle.vx_call.specs.Rows.{send_refusal};
+ghost use Rattle.vx_context.specs.Stands.{IsNext};
+ghost use Rattle.vx_core_bus.specs.Stands.{StoresStand, Follows, HavePlaces, AreOfOneHistory};
 
-use crate::bus::{Bus, Recipient};
-use crate::refusals::bad_address;
-use vx_call::{Call, Reply, Task, To, Unmade};
+use crate::bus::Bus;
+use crate::refusals::send_refusal;
+use crate::rows::deliver::{destination, make_room, pass_on};
+use vx_call::{Call, Options, Reply, To, Unmade};
 use vx_context::Contexts;
-use vx_data::{Body, ConsumerId, EntryNo, MessageId, NoMemory, PassNo, Text};
-use vx_message::{Item, ItemKind, Message};
+use vx_data::{Body, EntryNo, NoMemory, PassNo, Text};
 use vx_timer::Timers;
 
 /// Sends a message to the consumer whose turn it is.
@@ -28,92 +28,65 @@ pub fn send(
     pass: PassNo,
     address: Text,
     body: Body,
+    options: Options,
 ) -> Result<Reply, Unmade>
     requires small { at.0 < 2 ^ 48 }
     requires places { HavePlaces contexts.old bus.old }
     requires one { AreOfOneHistory contexts.old timers.now bus.old }
-    ensures ok { IfOk result (λ reply. (history : List Traced) → StoresStand contexts.old timers.now bus.old history → IsNext at history → Follows contexts.new timers.now bus.new history pass (Call.Send address body) reply) }
+    ensures ok { IfOk result (λ reply. (history : List Traced) → StoresStand contexts.old timers.now bus.old history → IsNext at history → Follows contexts.new timers.now bus.new history pass (Call.Send address body options) reply) }
     ensures err { OnErr result ((history : List Traced) → StoresStand contexts.old timers.now bus.old history → StoresStand contexts.new timers.now bus.new history) }
-    ensures back { IfErr result (λ unmade. unmade.call ≡ Call.Send address body) }
+    ensures back { IfErr result (λ unmade. unmade.call ≡ Call.Send address body options) }
     ensures places { HavePlaces contexts.new bus.new }
 {
-    if let Some(refusal) = bad_address(&address) {
+    if let Some(refusal) = send_refusal(bus, &address, &body, &options) {
         return Ok(Reply::Refused(refusal));
     }
-    if !bus.has_handlers(&address) {
-        return Ok(Reply::Sent(To::None));
-    }
-    if make_room(contexts, bus, 1).is_err() {
-        return Err(Unmade {
-            call: Call::Send { address, body },
-        });
-    }
-    let message = Message {
-        id: MessageId(at),
-        address,
-        body,
-        request: false,
-        publish: false,
-    };
-    let consumer = deliver(contexts, bus, at, message);
-    Ok(Reply::Sent(To::Consumer(consumer)))
-}
-
-/// Makes room for so many tasks more, beside the outcomes of the requests that wait.
-pub fn make_room(contexts: &mut Contexts, bus: &mut Bus, more: usize) -> Result<(), NoMemory>
-    requires { HavePlaces contexts.old bus.old }
-    ensures places { HavePlaces contexts.new bus.new }
-    ensures same_contexts { contexts.new ≡ record contexts.old { room = contexts.new.room } }
-    ensures same_bus { bus.new ≡ record bus.old { given = bus.new.given; room = bus.new.room } }
-    ensures given { (id : MessageId) → given_at id bus.new.given ≡ given_at id bus.old.given }
-    ensures keeps { (history : List Traced) (timers : List Timer) → StoresStand contexts.old timers bus.old history → StoresStand contexts.new timers bus.new history }
-    ensures room { OnOk result (HaveRoom contexts.new bus.new more) }
-{
-    let places = bus.open_count().checked_add(more).ok_or(NoMemory)?;
-    contexts.reserve(places)?;
-    bus.reserve(places)
-}
-
-/// Gives a message to the consumer whose turn it is at its address, where there is one.
-pub fn deliver(contexts: &mut Contexts, bus: &mut Bus, at: EntryNo, message: Message) -> ConsumerId
-    requires items { 0 < contexts.old.room }
-    requires tasks { 0 < bus.old.room }
-    requires live { is_empty (consumers_at message.address bus.old.rings) ≡ false }
-    requires one { IsBusOfHistory bus.old }
-    ensures given { (history : List Traced) → ContextsStand contexts.old history → BusStands bus.old history → IsNext at history → GivesTurn contexts.old contexts.new bus.old bus.new history message result }
-    ensures items { contexts.old.room ≤ contexts.new.room + 1 }
-    ensures tasks { bus.old.room ≤ bus.new.room + 1 }
-    ensures waiting { bus.new.requests ≡ bus.old.requests }
-{
-    let recipient = chosen(bus, &message.address);
-    let consumer = recipient.consumer;
-    contexts.put(Item {
-        entry: at,
-        place: 0,
-        context: recipient.context,
-        kind: ItemKind::Deliver(consumer, message.id),
-    });
-    bus.put(Task::Deliver { consumer, message });
-    consumer
-}
-
-// The consumer whose turn it is, which counts as a choice.
-fn chosen(bus: &mut Bus, address: &Text) -> Recipient
-    requires live { is_empty (consumers_at address.now bus.old.rings) ≡ false }
-    requires one { IsBusOfHistory bus.old }
-    ensures chosen { (history : List Traced) → BusStands bus.old history → option_map recipient_of (choice history address.now) ≡ Some result }
-    ensures same { bus.new ≡ record bus.old { rings = bus.new.rings } }
-    ensures in_turn { (a : List ℕ) → consumers_at a bus.new.rings ≡ consumers_at a bus.old.rings }
-    ensures choices { (a : List ℕ) → choices_at a bus.new.rings ≡ (if bytes_eq a address.now && not (is_empty (consumers_at a bus.old.rings)) then min (choices_at a bus.old.rings + 1) (2 ^ 64 - 1) else choices_at a bus.old.rings) }
-{
-    match bus.choose(address) {
-        Some(id) => match bus.consumer(id) {
-            Some(consumer) => Recipient {
-                consumer: id,
-                context: consumer.context,
+    match send_on(contexts, timers, bus, at, pass, &address, &body, &options) {
+        Ok(to) => Ok(Reply::Sent(to)),
+        Err(NoMemory) => Err(Unmade {
+            call: Call::Send {
+                address,
+                body,
+                options,
             },
-            None => unreachable!(),
-        },
-        None => unreachable!(),
+        }),
+    }
+}
+
+// Sends a message that is not refused.
+fn send_on(
+    contexts: &mut Contexts,
+    timers: &Timers,
+    bus: &mut Bus,
+    at: EntryNo,
+    pass: PassNo,
+    address: &Text,
+    body: &Body,
+    options: &Options,
+) -> Result<To, NoMemory>
+    requires small { at.0 < 2 ^ 48 }
+    requires places { HavePlaces contexts.old bus.old }
+    requires one { AreOfOneHistory contexts.old timers.now bus.old }
+    requires deep { tree_depth body.now ≤ 100 }
+    requires pairs { length options.now.headers ≤ 1024 }
+    requires bytes { header_bytes options.now.headers ≤ 65536 }
+    ensures ok { IfOk result (λ to. (history : List Traced) → StoresStand contexts.old timers.now bus.old history → IsNext at history → send_refusal history address.now body.now options.now ≡ None → Follows contexts.new timers.now bus.new history pass (calls.Send address.now body.now options.now) (replies.Sent to)) }
+    ensures err { OnErr result ((history : List Traced) → StoresStand contexts.old timers.now bus.old history → StoresStand contexts.new timers.now bus.new history) }
+    ensures places { HavePlaces contexts.new bus.new }
+{
+    let passage = bus.passage(at, address, body, options, false, false)?;
+    let to = destination(bus, &passage, address);
+    make_room(contexts, bus, places_for(to))?;
+    pass_on(contexts, bus, at, passage, address, to);
+    Ok(to)
+}
+
+// For how many more tasks room is needed.
+fn places_for(to: To) -> usize
+    ensures { (id : ConsumerId) → to ≡ reached.Consumer id → result ≡ 1 }
+{
+    match to {
+        To::Consumer(_) => 1,
+        _ => 0,
     }
 }

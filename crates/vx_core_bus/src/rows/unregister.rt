@@ -6,7 +6,7 @@ ghost use Rattle.vx_core_bus.specs.Lost.{lost_rows, lost_item, lost_task, lost_i
 ghost use Rattle.vx_core_bus.specs.Stands.{StoresStand, Follows, HavePlaces};
 
 use crate::bus::Bus;
-use crate::refusals::unregister_refusal;
+use crate::refusals::consumer_refusal;
 use crate::rows::outcomes::{no_handlers, put_outcome};
 use vx_call::Reply;
 use vx_context::Contexts;
@@ -28,7 +28,7 @@ pub fn unregister(
     ensures follows { (history : List Traced) → StoresStand contexts.old timers.old bus.old history → IsNext at history → Follows contexts.new timers.new bus.new history pass (calls.Unregister consumer) result }
     ensures places { HavePlaces contexts.new bus.new }
 {
-    if let Some(refusal) = unregister_refusal(contexts, bus, pass, consumer) {
+    if let Some(refusal) = consumer_refusal(contexts, bus, pass, consumer) {
         return Reply::Refused(refusal);
     }
     contexts.cancel(consumer);

@@ -19,7 +19,7 @@ join-one-requires-send-F g c κs within =
     let rt = (shr_ref_field record { mir = named 6; lft = κs.1.1.1.1.1.1.0 } (param 0 g.row.R) tt).row in
     let shared = (shr_ref_field record { mir = named 7; lft = κs.1.1.1.1.1.1.1.0 } host.the_row tt).row in
     let whole = passes.the_row hub.the_row traced.the_row machine.ghosts in
-    param_send 1 (arg-0-1 g.row.R g.R.laws g.R.Threads-dict g.R.Wait-dict κs)
+    param_send 1 (arg-0-1 g.row.R g.R.laws g.R.Threads-dict g.R.Wait-dict g.R.AllocGlobal-dict g.R.Alloc-dict g.bound-5-dict g.bound-6-dict κs)
     (arg_send _ yes _ (three_send (codes "host_bench::work::fn::both::join+arg2+Self") rt shared whole (search (sendable, c.type_bounds.sync-R)) (search (sendable, host_sync)) pass_send))
 
 pub join-one-requires-send-A : goal.join-one-requires-send-A

@@ -3,7 +3,7 @@ use Rattle.vx_data.specs.declared.ids.ContextId.{ContextId}
 use Rattle.vx_request.specs.declared.requests.OpenRequest.{OpenRequest}
 use Rattle.vx_request.specs.Stores.{is_request}
 use Rattle.vx_request.proofs.Rows.{some_pass, all_counted}
-use Rattle.vx_core_bus.specs.Stores.{BusStore, asker_in}
+use Rattle.vx_core_bus.specs.Stores.{BusStore, asker_in, held_in}
 use Rattle.vx_core_bus.proofs.timing.time_out.Goals as goal
 
 asked_found : (found : Option OpenRequest) (asker : ContextId) → asker_in found ≡ Some asker → (row : OpenRequest) × (found ≡ Some row)
@@ -19,8 +19,9 @@ returns-in-Some-clause-places c =
     let counted = all_counted test rows in
     let left : c.put_outcome.new.bus.requests.waiting ≡ filter (λ row. not (test row)) rows = ap (λ (s : BusStore). s.requests.waiting) c.put_outcome.ensures.tasks ∙ c.settle.ensures.left in
     let same : c.settle.new.self.room ≡ c.args.bus.now.room = ap (λ (s : BusStore). s.room) c.settle.ensures.same in
+    let held = ap (λ (s : BusStore). held_in s.consumers) c.put_outcome.ensures.tasks ∙ ap (λ (s : BusStore). held_in s.consumers) c.settle.ensures.same in
     record {
-      items = rw left (omega (arith, passes, counted, c.requires.items, c.put_outcome.ensures.items_room));
+      items = rw left (omega (arith, held, passes, counted, c.requires.items, c.put_outcome.ensures.items_room));
       tasks = rw left (omega (arith, passes, counted, same, c.requires.tasks, c.put_outcome.ensures.tasks_room));
     }
 
@@ -30,7 +31,8 @@ returns-in_default-clause-places c =
     let rows = c.args.bus.now.requests.waiting in
     let counted = all_counted test rows in
     let same : c.settle.new.self.room ≡ c.args.bus.now.room = ap (λ (s : BusStore). s.room) c.settle.ensures.same in
+    let held = ap (λ (s : BusStore). held_in s.consumers) c.settle.ensures.same in
     record {
-      items = rw c.settle.ensures.left (omega (arith, counted, c.requires.items));
+      items = rw c.settle.ensures.left (omega (arith, held, counted, c.requires.items));
       tasks = rw c.settle.ensures.left (omega (arith, counted, same, c.requires.tasks));
     }

@@ -1,4 +1,5 @@
 use Rattle.vx_laws.proofs.Deliveries.{delivered_once}
+use Rattle.vx_laws.proofs.Order.{take_in_order}
 use Rattle.vx_laws.proofs.Requests.{ended_once}
 use Rattle.vx_laws.proofs.Turns.{take_turns}
 use Rattle.vx_script.specs.Playing.{history_of}
@@ -17,6 +18,9 @@ returns-clause-requests_end_once g c = λ bytes commands few ok. ended_once (his
 
 pub returns-clause-handlers_take_turns : goal.returns-clause-handlers_take_turns
 returns-clause-handlers_take_turns g c = λ bytes commands few ok. take_turns (history_of commands) (legal_run bytes commands few ok)
+
+pub returns-clause-taken_in_order : goal.returns-clause-taken_in_order
+returns-clause-taken_in_order g c = λ bytes commands few ok. take_in_order (history_of commands) (legal_run bytes commands few ok)
 
 pub returns-clause-complete : goal.returns-clause-complete
 returns-clause-complete g c = λ bytes commands words told few ok reads writes.

@@ -1,6 +1,6 @@
 use Rattle.std.proofs.Common.{◌≡◌, ◌+◌, ◌≤◌, ◌++◌, length, map}
 use Rattle.std.specs.Vec.Iter.{into_iter_items}
-use Rattle.vx_core_bus.specs.Published.{parcel_items, parcel_task}
+use Rattle.vx_core_bus.specs.Published.{parcel_items, parcel_task, ready_count}
 use Rattle.vx_core_bus.proofs.rows.publish.deliver_each.Given as goal
 
 abbrev pub invariant-loop-recipient : goal.invariant-loop-recipient
@@ -12,7 +12,7 @@ invariant-loop-recipient l =
       bus : l.bus ≡ record l.initial.bus { tasks = l.bus.tasks; room = l.bus.room };
       items : l.contexts.waiting ++ parcel_items l.at l.place rest ≡ l.initial.contexts.waiting ++ parcel_items l.at 0 all;
       tasks : l.bus.tasks ++ map parcel_task rest ≡ l.initial.bus.tasks ++ map parcel_task all;
-      place : l.place + length rest ≡ length all;
-      items_room : l.initial.contexts.room + length rest ≤ l.contexts.room + length all;
+      place : l.place + ready_count rest ≡ ready_count all;
+      items_room : l.initial.contexts.room + ready_count rest ≤ l.contexts.room + ready_count all;
       tasks_room : l.initial.bus.room + length rest ≤ l.bus.room + length all;
     }

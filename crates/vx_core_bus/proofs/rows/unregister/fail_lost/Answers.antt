@@ -22,7 +22,7 @@ loop-index-init c = record {
 pub put_lost-requires-clause-items : goal.put_lost-requires-clause-items
 put_lost-requires-clause-items c =
     let within : c.loop-index.index < length c.args.bus.now.requests.waiting = omega (arith, c.open_count-index-end.ensures) in
-    room_left (is_lost c.args.consumer c.args.bus.now.given) c.args.bus.now.requests.waiting c.loop-index.index c.args.contexts.now.room c.loop-index.contexts.room within c.requires.places.items c.loop-index.invariant.items_room
+    room_left (is_lost c.args.consumer c.args.bus.now.given) c.args.bus.now.requests.waiting c.loop-index.index c.args.contexts.now.room c.loop-index.contexts.room within (omega (arith, c.requires.places.items)) c.loop-index.invariant.items_room
 
 pub put_lost-requires-clause-tasks : goal.put_lost-requires-clause-tasks
 put_lost-requires-clause-tasks c =

@@ -1,6 +1,6 @@
 use Rattle.std.proofs.Common.{◌+◌, [], ap, sym, ◌∙◌, arith, max}
 use Rattle.std.specs.Prelude.{map, filter, length, find, fold}
-use Rattle.std.specs.List.{count_by, filter_map}
+use Rattle.std.specs.List.{count_by}
 use Rattle.std.specs.Option.{option_map}
 use Rattle.std.specs.Str.{bytes_eq}
 use Rattle.vx_message.specs.declared.Given.{Given}
@@ -12,13 +12,15 @@ use Rattle.vx_call.specs.Choices.{choice_kind}
 use Rattle.vx_call.specs.Given.{given_kind}
 use Rattle.vx_call.specs.Requests.{open_kind, moment_kind, by_due}
 use Rattle.vx_call.specs.Settled.{Settled, settled_kind}
-use Rattle.vx_call.specs.Items.{item_kind}
+use Rattle.vx_call.specs.Codecs.{codec_kind}
+use Rattle.vx_call.specs.Rules.{rule_kind}
+use Rattle.vx_call.specs.Items.{item_kind, task_kind}
 use Rattle.vx_call.specs.Held.{held_kind}
 use Rattle.vx_call.specs.Rows.{ids_of}
 use Rattle.vx_call.proofs.Lasting.{lasting_none}
 use Rattle.vx_call.proofs.Legal.{legal_none}
 use Rattle.vx_context.specs.Stores.{ContextStore, item_of}
-use Rattle.vx_core_bus.specs.Stores.{task_of, row_of, timer_of}
+use Rattle.vx_core_bus.specs.Stores.{handler_of, row_of, timer_of}
 use Rattle.vx_hub.specs.Stores.{HubStore}
 use Rattle.vx_hub.specs.Stands.{HubStands}
 use Rattle.vx_hub.proofs.hub.Hub.new.Goals as goal
@@ -38,13 +40,15 @@ empty c = record {
       };
       timers = c.new-3.ensures ∙ ap (λ rs. map timer_of (by_due rs)) (sym (lasting_none open_kind));
       bus = record {
-        consumers = c.new-4.ensures.consumers ∙ sym (lasting_none consumer_kind);
+        consumers = c.new-4.ensures.consumers ∙ ap (map (handler_of [])) (sym (lasting_none consumer_kind));
         rings = λ a. c.new-4.ensures.in_turn a ∙ ap (λ cs. ids_of (filter (is_at a) cs)) (sym (lasting_none consumer_kind));
         choices = λ a. c.new-4.ensures.choices a ∙ ap (count_by (bytes_eq a)) (sym (lasting_none choice_kind));
-        tasks = c.new-4.ensures.tasks ∙ ap (filter_map task_of) (sym (lasting_none item_kind));
+        tasks = c.new-4.ensures.tasks ∙ sym (lasting_none task_kind);
         opened = c.new-4.ensures.requests ∙ ap (map row_of) (sym (lasting_none open_kind));
         ended = λ id. c.new-4.ensures.ended id ∙ ap (λ ss. option_map (λ (s : Settled). s.at) (find (λ (s : Settled). same_message id s.request) ss)) (sym (lasting_none settled_kind));
         given = λ id. c.new-4.ensures.given id ∙ ap (λ gs. find (λ (g : Given). same_message id g.id) gs) (sym (lasting_none given_kind));
+        codecs = c.new-4.ensures.codecs ∙ sym (lasting_none codec_kind);
+        rules = c.new-4.ensures.rules ∙ sym (lasting_none rule_kind);
       };
     };
   };
@@ -54,7 +58,7 @@ pub invariant_of-result : goal.invariant_of-result
 invariant_of-result c = (
   ∣ ([], empty c) ∣₁,
   record {
-    items = rw c.new-4.ensures.requests (omega arith);
+    items = rw (c.new-4.ensures.requests, c.new-4.ensures.consumers) (omega arith);
     tasks = rw c.new-4.ensures.requests (omega arith);
   },
 )

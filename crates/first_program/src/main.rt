@@ -1,0 +1,82 @@
+//! A first program with the library: a context with one consumer, a message for it, and its handler.
+#![tactic(auto)]
+
+use std::alloc::Global;
+use std::io;
+use vx_call::{Call, End, Lane, Options, Reply, Task};
+use vx_data::{Body, BodyView, ContextId, PassNo, Text};
+use vx_hub::Hub;
+
+/// The one caller.
+const PASS: PassNo = PassNo(0);
+
+/// Makes a context with a consumer, and answers the context.
+fn set_up(hub: &mut Hub) -> Option<ContextId> {
+    let Ok(Reply::Context(context)) = hub.step(PASS, Call::NewContext) else {
+        return None;
+    };
+    let register = Call::Register {
+        context,
+        address: Text::constant("news"),
+        limit: 1000,
+    };
+    match hub.step(PASS, register) {
+        Ok(Reply::Consumer(_)) => Some(context),
+        _ => None,
+    }
+}
+
+/// Sends a number to the consumer: whether the call was accepted.
+fn send(hub: &mut Hub, alloc: Global, number: i64) -> bool {
+    let send = Call::Send {
+        address: Text::constant("news"),
+        body: Body::int(number),
+        options: Options::none(alloc),
+    };
+    matches!(hub.step(PASS, send), Ok(Reply::Sent(_)))
+}
+
+/// The handler: what it makes of a message.
+fn handler(reply: &Reply) -> Option<i64> {
+    match reply {
+        Reply::Task(
+            Task::Deliver {
+                consumer: _,
+                message,
+            },
+        ) => match message.body.view() {
+            BodyView::Int(number) => Some(number),
+            _ => None,
+        },
+        _ => None,
+    }
+}
+
+/// Takes the next task of the context, runs its handler, and ends the task, so that the next handler may run.
+fn run_once(hub: &mut Hub, context: ContextId) -> Option<i64> {
+    let taken = hub.take(PASS, Lane::Own(context));
+    let came = handler(&taken);
+    hub.finish(PASS, End::Done).ok()?;
+    came
+}
+
+/// Sends a number, and answers the one that the handler got.
+fn exchange(hub: &mut Hub, alloc: Global, number: i64) -> Option<i64> {
+    let context = set_up(hub)?;
+    if send(hub, alloc, number) {
+        run_once(hub, context)
+    } else {
+        None
+    }
+}
+
+fn main(rt: HostRuntime) -> io::Result<()> {
+    let came = {
+        let mut hub = Hub::new(rt.alloc());
+        exchange(&mut hub, rt.alloc(), 7)
+    };
+    match came {
+        Some(number) => println!(rt; "the handler got {number}"),
+        None => println!(rt; "a call was refused, or memory ran out"),
+    }
+}

@@ -1,0 +1,483 @@
+use std::alloc::{AllocError, Global};
+use std::process::Abort;
+use std::test::Fail;
+use vx_data::Text;
+use vx_io::{MemSink, MemSource};
+use vx_script::{LineWhy, Status, script};
+
+fn run_words(alloc: Global) -> Result<Vec<Text>, Fail> {
+    let mut words = Vec::new(alloc);
+    words.push(Text::new(alloc, b"run")?)?;
+    Ok(words)
+}
+
+/// Plays a script over forms in memory, and compares its status and its output.
+fn plays(
+    rt: &impl Abort,
+    alloc: Global,
+    input: &[u8],
+    status: Status,
+    output: &[u8],
+) -> Result<(), Fail> {
+    let words = run_words(alloc)?;
+    let mut source = MemSource::new(input.to_vec(alloc)?, Vec::new(alloc));
+    let mut sink = MemSink::new(alloc, Vec::new(alloc));
+    let got = script(alloc, &words, &mut source, &mut sink);
+    assert_eq!(rt; got, status, "status at {input:?}");
+    assert_eq!(rt; sink.bytes(), output, "output at {input:?}");
+    Ok(())
+}
+
+fn bad(line: u64, why: LineWhy) -> Status {
+    Status::BadLine { line, why }
+}
+
+/// Scripts whose lines are all good, with the lines that they write. A `/` stands for a newline.
+static GOOD: [(&str, &str); 38] = [
+    ("", ""),
+    ("finish", "refused 5 not holding/"),
+    ("send news 1/", "sent 0 to none/"),
+    (
+        "context/register 0 news/send news \"hi\"/take own 0/finish/",
+        "context 0/consumer 1/sent 2 to 1/deliver 1 2 \"hi\"/ok/",
+    ),
+    (
+        "context/register 0 a/send a 1/take own 0/take own 0/finish",
+        "context 0/consumer 1/sent 2 to 1/deliver 1 2 1/refused 6 holding 3/ok/",
+    ),
+    (
+        "context/register 0 a/register 0 a/send a 1/send a 2/send a 3/unregister 1/send a 4",
+        "context 0/consumer 1/consumer 2/sent 3 to 1/sent 4 to 2/sent 5 to 1/ok/sent 7 to 2/",
+    ),
+    (
+        "context/register 0 a/register 0 a/send a 1/send a 2/send a 3/unregister 1/send a 4/\
+         unregister 2/register 0 a/send a 0",
+        "context 0/consumer 1/consumer 2/sent 3 to 1/sent 4 to 2/sent 5 to 1/ok/sent 7 to 2/\
+         ok/consumer 9/sent 10 to 9/",
+    ),
+    (
+        "\r/# no call//  context  /register 000  a /send a  \"x y\" /take own 7/take   own 0.0",
+        "context 0/consumer 1/sent 2 to 1/refused 8 no lane/deliver 1 2 \"x y\"/",
+    ),
+    (
+        "register 5 a/take own 5/take own 0.1",
+        "refused 1 no context/refused 8 no lane/refused 8 no lane/",
+    ),
+    ("context/take own 0", "context 0/idle/"),
+    (
+        "context/register 0 a/request 0 a 1/take own 0/reply 2 \"x\"/reply 2 \"y\"/finish/take own 0",
+        "context 0/consumer 1/asked 2 to 1/request 1 2 1/ok/refused 13 late 4/ok/outcome 2 ok \"x\"/",
+    ),
+    (
+        "context/register 0 a/request +timeout:1 0 a 1/advance 0/advance 1/take own 0/finish/take own 0",
+        "context 0/consumer 1/asked 2 to 1/fired 0/fired 1/request 1 2 1/ok/outcome 2 timeout -1/",
+    ),
+    (
+        "context/register 0 a/request 0 a 1/take own 0/ask 2 0 2/fail 2 4 no/finish/take own 0/\
+         fail 4 -7 no/finish/take own 0",
+        "context 0/consumer 1/asked 2 to 1/request 1 2 1/asked 4 to asker/refused 13 late 4/ok/\
+         outcome 2 again 4 2/ok/ok/outcome 4 recipient_failure -7 \"no\"/",
+    ),
+    (
+        "context/register 0 a/request 0 a 1/unregister 1/take own 0",
+        "context 0/consumer 1/asked 2 to 1/ok/outcome 2 no_handlers -1/",
+    ),
+    (
+        "context/register 0 a/register 0 a/publish a 1/publish b 1",
+        "context 0/consumer 1/consumer 2/published 3 to 1 2/published 4 to none/",
+    ),
+    (
+        "pass/context/@1 register 1 a/@01  context/register 3 a/@1 unregister 9/unregister 18446744073709551615",
+        "pass 1/context 1/refused 4 not yours pass 0/context 3/refused 4 not yours pass 1/\
+         refused 3 no consumer/refused 3 no consumer/",
+    ),
+    (
+        "context/request +timeout:0 0 a 1/request +timeout:1000000000001 0 a 1/reply 7 1/ask 7 0 1",
+        "context 0/refused 17 bad delay/refused 17 bad delay/refused 11 no message/refused 11 no message/",
+    ),
+    (
+        "context/register 0 a/send a 1/take own 0/reply 2 1/fail 2 -0",
+        "context 0/consumer 1/sent 2 to 1/deliver 1 2 1/refused 12 not request/refused 12 not request/",
+    ),
+    (
+        "context/request 0 a 1/take own 0/finish",
+        "context 0/asked 1 to none/outcome 1 no_handlers -1/ok/",
+    ),
+    (
+        "context/register 0 a/request 0 a 1/take own 0/fail 2  -2147483648   'a'  b /finish/take own 0",
+        "context 0/consumer 1/asked 2 to 1/request 1 2 1/ok/ok/\
+         outcome 2 recipient_failure -2147483648 \"'a'  b \"/",
+    ),
+    (
+        "register 18446744073709551615.4294967295 a",
+        "refused 1 no context/",
+    ),
+    ("fail 1 2147483647", "refused 11 no message/"),
+    (
+        "context/register 0 a/advance 5/advance 3/request +timeout:1 0 a 1/advance 5/advance 6",
+        "context 0/consumer 1/fired 0/fired 0/asked 4 to 1/fired 0/fired 1/",
+    ),
+    (
+        "context/register 0 a/advance 4611686018427387904/request 0 a 1/advance 18446744073709551615",
+        "context 0/consumer 1/fired 0/asked 3 to 1/fired 0/",
+    ),
+    (
+        "context/register +limit:2 0 a/pause 1/send a 1/send a 2/send a 3/fetch 1 1/take own 0/finish/take own 0/\
+         resume 1/take own 0",
+        "context 0/consumer 1/ok/sent 3 to 1/sent 4 to 1/sent 5 lost 1/ok/deliver 1 3 1/ok/idle/ok/deliver 1 4 2/",
+    ),
+    (
+        "context/register 0 a/send a 1/pause 1/send a 2/fetch 1 1/take own 0/finish/take own 0",
+        "context 0/consumer 1/sent 2 to 1/ok/sent 4 to 1/ok/deliver 1 2 1/ok/idle/",
+    ),
+    (
+        "context/register 0 a/codec w wrap k/rule out at:a add:h=v/send +codec:w a 1/take own 0/finish/rule in any stop/\
+         send a 2/codec w copy",
+        "context 0/consumer 1/codec 2/rule 3/sent 4 to 1/deliver 1 4 +\"h\"=\"v\" {\"k\":1}/ok/rule 7/\
+         sent 8 stopped/refused 20 codec taken 2/",
+    ),
+    (
+        "context/register +limit:1 0 a/pause 1/send a 1/request 0 a 2/take own 0",
+        "context 0/consumer 1/ok/sent 3 to 1/asked 4 lost 1/outcome 4 no_handlers -1/",
+    ),
+    (
+        "context/rule out any stop/request 0 a 1/take own 0",
+        "context 0/rule 1/asked 2 stopped/outcome 2 no_handlers -1/",
+    ),
+    (
+        "context/register +limit:0 0 a/register +limit:100001 0 a/register +limit:100000 0 a/fetch 3 0/fetch 9 1/pause 9/\
+         resume 9",
+        "context 0/refused 16 bad count/refused 16 bad count/consumer 3/refused 16 bad count/refused 3 no consumer/\
+         refused 3 no consumer/refused 3 no consumer/",
+    ),
+    (
+        "context/register 0 a/codec k keep a c/codec d drop a c/codec c copy/send +codec:k a {\"b\":1,\"a\":2}/\
+         send +codec:d a {\"b\":1,\"a\":2}/send +codec:c a [ 1 ,true ]/take own 0/finish/take own 0/finish/take own 0",
+        "context 0/consumer 1/codec 2/codec 3/codec 4/sent 5 to 1/sent 6 to 1/sent 7 to 1/deliver 1 5 {\"a\":2}/ok/\
+         deliver 1 6 {\"b\":1}/ok/deliver 1 7 [1,true]/",
+    ),
+    (
+        "uncodec w/codec w keep/uncodec w/send +codec:w a 1/unrule 9/rule in has:h add:=/unrule 5/unrule 5",
+        "refused 19 no codec/codec 1/ok/refused 19 no codec/refused 21 no rule/rule 5/ok/refused 21 no rule/",
+    ),
+    (
+        "context/register 0 a/rule in has:a add:c=d=e/send +h:a= +h:=b a null/send +h:b:c=\" a -5/take own 0/finish/\
+         take own 0",
+        "context 0/consumer 1/rule 2/sent 3 to 1/sent 4 to 1/deliver 1 3 +\"a\"=\"\" +\"\"=\"b\" +\"c\"=\"d=e\" null/ok/\
+         deliver 1 4 +\"b:c\"=\"\\\"\" -5/",
+    ),
+    (
+        "context/register 0 a/request +timeout:5 +h:a=1 0 a {\"x\":[\"\\u00e9\"]}/take own 0/reply +h:b=2 +h:b=3 2 \"y\"/\
+         finish/take own 0",
+        "context 0/consumer 1/asked 2 to 1/request 1 2 +\"a\"=\"1\" {\"x\":[\"é\"]}/ok/ok/\
+         outcome 2 ok +\"b\"=\"2\" +\"b\"=\"3\" \"y\"/",
+    ),
+    (
+        "context/register 0 a/request 0 a 1/take own 0/ask +h:q=r +timeout:9 2 0 [[]]/finish/take own 0",
+        "context 0/consumer 1/asked 2 to 1/request 1 2 1/asked 4 to asker/ok/outcome 2 again 4 +\"q\"=\"r\" [[]]/",
+    ),
+    (
+        "register 0 +limit:1/register 0 +a/register 0 é/send é\t\"\u{7f} 1/uncodec +codec:w",
+        "refused 1 no context/refused 1 no context/refused 1 no context/sent 3 to none/refused 19 no codec/",
+    ),
+    (
+        "publish +codec: a 1/publish +h:a=b a 1/reply +codec:c +h:a=b 0 1/fail 1 1 \"é\\",
+        "refused 19 no codec/published 1 to none/refused 11 no message/refused 11 no message/",
+    ),
+    (
+        "send a  \"x\\n\" /send a 9223372036854775807/send a\u{20}\t\t1\t/send a -9223372036854775808",
+        "sent 0 to none/sent 1 to none/sent 2 to none/sent 3 to none/",
+    ),
+];
+
+/// Bad scripts, with the first line in no form, and why. A `/` stands for a newline.
+static BAD: [(&str, u64, LineWhy); 90] = [
+    ("context/foo", 2, LineWhy::Word),
+    ("context/pass 1", 2, LineWhy::Form),
+    ("context\r//# fine/context 1/foo", 4, LineWhy::Form),
+    ("   ", 1, LineWhy::Word),
+    ("\r", 1, LineWhy::Word),
+    (" # no comment", 1, LineWhy::Word),
+    ("con\0text", 1, LineWhy::Word),
+    ("finish\tall", 1, LineWhy::Word),
+    ("@1 pass", 1, LineWhy::Pass),
+    ("pass/@1 pass/@2 pass/@4 pass", 4, LineWhy::Pass),
+    ("@ pass", 1, LineWhy::Pass),
+    ("@x pass", 1, LineWhy::Pass),
+    ("@-0 pass", 1, LineWhy::Pass),
+    ("@18446744073709551616 pass", 1, LineWhy::Pass),
+    ("@000000000000000000000 pass", 1, LineWhy::Pass),
+    ("@1", 1, LineWhy::Pass),
+    ("@0", 1, LineWhy::Word),
+    ("@0 @0 pass", 1, LineWhy::Word),
+    ("@0 loops", 1, LineWhy::Unbuilt),
+    ("close 1", 1, LineWhy::Unbuilt),
+    ("register +x +limit:", 1, LineWhy::Form),
+    ("register +limit 0 a", 1, LineWhy::Form),
+    ("register +limit:x 0 a", 1, LineWhy::Form),
+    ("register +limit:4294967296 0 a", 1, LineWhy::Form),
+    ("register +limit:1 +limit:1 0 a", 1, LineWhy::Form),
+    ("register +timeout:1 0 a", 1, LineWhy::Form),
+    ("send +h a 1", 1, LineWhy::Form),
+    ("send +h:a:b a 1", 1, LineWhy::Form),
+    ("send +x a 1", 1, LineWhy::Form),
+    ("send +timeout:1 a 1", 1, LineWhy::Form),
+    ("send +h:a=b +a 1", 1, LineWhy::Form),
+    ("send +codec:c +h:a=b +codec:c a 1", 1, LineWhy::Form),
+    ("request +timeout:1 +once 0 a 1", 1, LineWhy::Unbuilt),
+    ("request +once:1 0 a 1", 1, LineWhy::Form),
+    ("request +timeout:1 +timeout:1 0 a 1", 1, LineWhy::Form),
+    ("request +timeout: 0 a 1", 1, LineWhy::Form),
+    ("request +timeout:x 0 a 1", 1, LineWhy::Form),
+    ("reply +once 0 1", 1, LineWhy::Form),
+    ("reply +timeout:1 0 1", 1, LineWhy::Form),
+    ("ask +h: 0 0 1", 1, LineWhy::Form),
+    ("fail +h:a=b 0 1", 1, LineWhy::Form),
+    ("pause", 1, LineWhy::Form),
+    ("pause 1 1", 1, LineWhy::Form),
+    ("resume x", 1, LineWhy::Form),
+    ("fetch 1", 1, LineWhy::Form),
+    ("fetch 1 4294967296", 1, LineWhy::Form),
+    ("fetch 1 -1", 1, LineWhy::Form),
+    ("codec c", 1, LineWhy::Form),
+    ("codec c keeps a", 1, LineWhy::Form),
+    ("codec c copy a", 1, LineWhy::Form),
+    ("codec c wrap", 1, LineWhy::Form),
+    ("codec c wrap a b", 1, LineWhy::Form),
+    ("uncodec", 1, LineWhy::Form),
+    ("uncodec a b", 1, LineWhy::Form),
+    ("rule up any stop", 1, LineWhy::Form),
+    ("rule in all stop", 1, LineWhy::Form),
+    ("rule in any: stop", 1, LineWhy::Form),
+    ("rule in at stop", 1, LineWhy::Form),
+    ("rule out at:a go", 1, LineWhy::Form),
+    ("rule out has:a add:b", 1, LineWhy::Form),
+    ("rule in any stop 1", 1, LineWhy::Form),
+    ("unrule +1", 1, LineWhy::Form),
+    ("take loop 1", 1, LineWhy::Unbuilt),
+    ("take pool", 1, LineWhy::Unbuilt),
+    ("take own", 1, LineWhy::Form),
+    ("take any 0", 1, LineWhy::Form),
+    ("finish later", 1, LineWhy::Unbuilt),
+    ("finish nomemory", 1, LineWhy::Unbuilt),
+    ("finish all", 1, LineWhy::Form),
+    ("register 18446744073709551616 a", 1, LineWhy::Form),
+    ("register 000000000000000000001 a", 1, LineWhy::Form),
+    ("register 0.4294967296 a", 1, LineWhy::Form),
+    ("register 0. a", 1, LineWhy::Form),
+    ("register 0.0.0 a", 1, LineWhy::Form),
+    ("register 0", 1, LineWhy::Form),
+    ("register -0 a", 1, LineWhy::Form),
+    ("send a", 1, LineWhy::Form),
+    ("send a 01", 1, LineWhy::Form),
+    ("send a -0", 1, LineWhy::Form),
+    ("send a 1.5", 1, LineWhy::Form),
+    ("send a 9223372036854775808", 1, LineWhy::Form),
+    ("send a nul", 1, LineWhy::Form),
+    ("send a [1", 1, LineWhy::Form),
+    ("send a {1:2}", 1, LineWhy::Form),
+    ("send a \"x", 1, LineWhy::Form),
+    ("send a \"x\"y", 1, LineWhy::Form),
+    ("send a \"x\u{1}\"", 1, LineWhy::Form),
+    ("send a\t1", 1, LineWhy::Form),
+    ("fail 1 2147483648 x", 1, LineWhy::Form),
+    ("fail 1 -2147483649 x", 1, LineWhy::Form),
+];
+
+/// The lines with a newline for each `/`.
+fn lines_of(alloc: Global, text: &str) -> Result<Vec<u8>, AllocError> {
+    let mut lines = text.as_bytes().to_vec(alloc)?;
+    for b in lines.iter_mut() {
+        if *b == b'/' {
+            *b = b'\n';
+        }
+    }
+    Ok(lines)
+}
+
+#[test]
+fn good_scripts(rt: HostRuntime) -> Result<(), Fail> {
+    let alloc = rt.alloc();
+    for (input, output) in GOOD {
+        let input = lines_of(alloc, input)?;
+        let output = lines_of(alloc, output)?;
+        plays(&rt, alloc, &input, Status::Done, &output)?;
+    }
+    Ok(())
+}
+
+#[test]
+fn bad_lines(rt: HostRuntime) -> Result<(), Fail> {
+    let alloc = rt.alloc();
+    for (input, line, why) in BAD {
+        let input = lines_of(alloc, input)?;
+        plays(&rt, alloc, &input, bad(line, why), b"")?;
+    }
+    for input in [
+        b"# \xff".as_slice(),
+        b"context\xc3".as_slice(),
+        b"foo\xff".as_slice(),
+    ] {
+        plays(&rt, alloc, input, bad(1, LineWhy::Utf8), b"")?;
+    }
+    Ok(())
+}
+
+/// A script that registers at an address of so many bytes.
+fn long_address(alloc: Global, count: usize) -> Result<Vec<u8>, AllocError> {
+    let mut input = b"context\nregister 0 ".to_vec(alloc)?;
+    for _ in 0..count {
+        input.push(b'a')?;
+    }
+    Ok(input)
+}
+
+#[test]
+fn addresses_have_1024_bytes_at_most(rt: HostRuntime) -> Result<(), Fail> {
+    let alloc = rt.alloc();
+    let longest = long_address(alloc, 1024)?;
+    plays(
+        &rt,
+        alloc,
+        &longest,
+        Status::Done,
+        b"context 0\nconsumer 1\n",
+    )?;
+    let longer = long_address(alloc, 1025)?;
+    plays(
+        &rt,
+        alloc,
+        &longer,
+        Status::Done,
+        b"context 0\nrefused 9 bad address\n",
+    )
+}
+
+/// A line that sends so many arrays, one in another.
+fn deep_body(alloc: Global, depth: usize) -> Result<Vec<u8>, AllocError> {
+    let mut line = b"send a ".to_vec(alloc)?;
+    for _ in 0..depth {
+        line.push(b'[')?;
+    }
+    for _ in 0..depth {
+        line.push(b']')?;
+    }
+    Ok(line)
+}
+
+#[test]
+fn bodies_are_100_deep_at_most(rt: HostRuntime) -> Result<(), Fail> {
+    let alloc = rt.alloc();
+    let deepest = deep_body(alloc, 100)?;
+    plays(&rt, alloc, &deepest, Status::Done, b"sent 0 to none\n")?;
+    let deeper = deep_body(alloc, 101)?;
+    plays(&rt, alloc, &deeper, bad(1, LineWhy::Form), b"")
+}
+
+/// A line that sends so many headers.
+fn many_headers(alloc: Global, count: usize) -> Result<Vec<u8>, AllocError> {
+    let mut line = b"send".to_vec(alloc)?;
+    for _ in 0..count {
+        line.extend_from_slice(b" +h:a=b")?;
+    }
+    line.extend_from_slice(b" a 1")?;
+    Ok(line)
+}
+
+#[test]
+fn lines_have_1152_headers_at_most(rt: HostRuntime) -> Result<(), Fail> {
+    let alloc = rt.alloc();
+    let sent = many_headers(alloc, 1024)?;
+    plays(&rt, alloc, &sent, Status::Done, b"sent 0 to none\n")?;
+    let most = many_headers(alloc, 1152)?;
+    plays(
+        &rt,
+        alloc,
+        &most,
+        Status::Done,
+        b"refused 10 too large 1024\n",
+    )?;
+    let more = many_headers(alloc, 1153)?;
+    plays(&rt, alloc, &more, bad(1, LineWhy::Form), b"")
+}
+
+/// A request that is failed with a text of this length.
+fn long_failure(alloc: Global, len: usize) -> Result<Vec<u8>, AllocError> {
+    let mut input = Vec::new(alloc);
+    input.extend_from_slice(b"context\nregister 0 a\nrequest 0 a 1\ntake own 0\nfail 2 1 ")?;
+    for _ in 0..len {
+        input.push(b'x')?;
+    }
+    Ok(input)
+}
+
+#[test]
+fn failures_have_65536_bytes_at_most(rt: HostRuntime) -> Result<(), Fail> {
+    let alloc = rt.alloc();
+    let longest = long_failure(alloc, 65_536)?;
+    plays(
+        &rt,
+        alloc,
+        &longest,
+        Status::Done,
+        b"context 0\nconsumer 1\nasked 2 to 1\nrequest 1 2 1\nok\n",
+    )?;
+    let longer = long_failure(alloc, 65_537)?;
+    plays(
+        &rt,
+        alloc,
+        &longer,
+        Status::Done,
+        b"context 0\nconsumer 1\nasked 2 to 1\nrequest 1 2 1\nrefused 10 too large 65536\n",
+    )
+}
+
+#[test]
+fn faults(rt: HostRuntime) -> Result<(), Fail> {
+    let alloc = rt.alloc();
+    let input = b"finish\nfinish\n";
+    for (read, write, status, output) in [
+        (0u64, 9u64, Status::ReadFault, ""),
+        (1, 9, Status::ReadFault, ""),
+        (9, 0, Status::WriteFault, ""),
+        (9, 1, Status::WriteFault, "refused 5 not holding\n"),
+    ] {
+        let words = run_words(alloc)?;
+        let mut source = MemSource::new(input.to_vec(alloc)?, vec![in alloc; read]?);
+        let mut sink = MemSink::new(alloc, vec![in alloc; write]?);
+        assert_eq!(rt; script(alloc, &words, &mut source, &mut sink), status);
+        assert_eq!(rt; sink.bytes(), output.as_bytes());
+    }
+    let none = Vec::new(alloc);
+    let mut source = MemSource::new(input.to_vec(alloc)?, Vec::new(alloc));
+    let mut sink = MemSink::new(alloc, Vec::new(alloc));
+    assert_eq!(rt; script(alloc, &none, &mut source, &mut sink), Status::Usage);
+    Ok(())
+}
+
+#[test]
+fn fault_lines(rt: HostRuntime) -> Result<(), Fail> {
+    for (status, code, line) in [
+        (Status::Done, 0, ""),
+        (Status::Usage, 2, "vxscript: usage\n"),
+        (bad(2, LineWhy::Utf8), 3, "vxscript: bad line 2: utf8\n"),
+        (bad(2, LineWhy::Pass), 3, "vxscript: bad line 2: pass\n"),
+        (bad(2, LineWhy::Word), 3, "vxscript: bad line 2: word\n"),
+        (
+            bad(2, LineWhy::Unbuilt),
+            3,
+            "vxscript: bad line 2: unbuilt\n",
+        ),
+        (bad(2, LineWhy::Form), 3, "vxscript: bad line 2: form\n"),
+        (Status::ReadFault, 4, "vxscript: read fault\n"),
+        (Status::WriteFault, 5, "vxscript: write fault\n"),
+        (Status::TooLong(1), 6, "vxscript: too long\n"),
+        (Status::NoMemory, 9, "vxscript: no memory\n"),
+    ] {
+        let mut got = Vec::new(rt.alloc());
+        assert_eq!(rt; status.text(rt.alloc(), &mut got), Ok(()));
+        assert_eq!(rt; got.as_slice(), line.as_bytes());
+        assert_eq!(rt; status.code(), code);
+    }
+    Ok(())
+}
