@@ -92,6 +92,12 @@ pub record TimesOut (old_contexts new_contexts : ContextStore) (old_bus new_bus 
   pub left : new_bus.requests.waiting ≡ filter (λ row. not (is_request request row)) old_bus.requests.waiting
   pub ended : (id : MessageId) → ended_at id new_bus.requests.ended ≡ option_or (ended_at id old_bus.requests.ended) (if same_message id request then Some at else None)
 
+-- a request that is not open stays so, and all else stays
+pub record IsLeftAlone (old new : BusStore) : Type 0 where
+  pub same : new ≡ record old { requests = new.requests }
+  pub waiting : new.requests.waiting ≡ old.requests.waiting
+  pub ended : (id : MessageId) → ended_at id new.requests.ended ≡ ended_at id old.requests.ended
+
 -- the entry's number and the moment are those of the history
 pub record IsAt (at : EntryNo) (moment : ℕ) (history : List Traced) : Type 0 where
   pub next : IsNext at history

@@ -110,23 +110,15 @@ fn make_ready(
     ensures items { contexts.new ≡ record contexts.old { waiting = contexts.old.waiting ++ message_items at context 0 (take count (drop (length (filter (is_for consumer) bus.now.tasks) - held) (filter (is_for consumer) bus.now.tasks))); room = contexts.new.room } }
     ensures room { contexts.old.room ≤ contexts.new.room + count }
 {
-    let ready = (bus.message_count(consumer) as u64).saturating_sub(held);
-    let mut place: u64 = 0;
-    let mut seen: u64 = 0;
-    for task in &bus.tasks {
-        if is_for(consumer, task) {
-            if ready <= seen && place < count {
-                let kind = kind_of(task);
-                contexts.put(Item {
-                    entry: at,
-                    place,
-                    context,
-                    kind,
-                });
-                place += 1;
-            }
-            seen += 1;
-        }
+    let ready = bus.message_count(consumer).saturating_sub(held as usize);
+    let messages = bus.tasks.iter().filter(|task| is_for(consumer, task));
+    for (place, task) in messages.skip(ready).take(count as usize).enumerate() {
+        contexts.put(Item {
+            entry: at,
+            place: place as u64,
+            context,
+            kind: kind_of(task),
+        });
     }
 }
 

@@ -1,8 +1,12 @@
-use Rattle.std.proofs.Common.{◌≡◌, not, filter, sym, ap, ◌∙◌, arith, refl, Option, None, Some}
+use Rattle.std.proofs.Common.{◌≡◌, not, filter, sym, ap, ◌∙◌, arith, refl, Bool, true, false, ◌&&◌, if◌then◌else◌, Option, None, Some}
+use Rattle.std.specs.Option.{option_or, is_some}
+use Rattle.vx_data.specs.declared.ids.EntryNo.{EntryNo}
+use Rattle.vx_data.specs.Ids.{same_message}
+use Rattle.vx_request.specs.Stores.{ended_at}
 use Rattle.vx_data.specs.declared.ids.ContextId.{ContextId}
 use Rattle.vx_request.specs.declared.requests.OpenRequest.{OpenRequest}
 use Rattle.vx_request.specs.Stores.{is_request}
-use Rattle.vx_request.proofs.Rows.{some_pass, all_counted}
+use Rattle.vx_request.proofs.Rows.{some_pass, all_counted, all_stay}
 use Rattle.vx_core_bus.specs.Stores.{BusStore, asker_in, held_in}
 use Rattle.vx_core_bus.proofs.timing.time_out.Goals as goal
 
@@ -36,3 +40,27 @@ returns-in_default-clause-places c =
       items = rw c.settle.ensures.left (omega (arith, held, counted, c.requires.items));
       tasks = rw c.settle.ensures.left (omega (arith, counted, same, c.requires.tasks));
     }
+
+pub returns-in-Some-clause-left_alone : goal.returns-in-Some-clause-left_alone
+returns-in-Some-clause-left_alone c closed =
+    let asked = ap asker_in (sym closed) ∙ sym c.settle.ensures.asker ∙ c.in-Some.is in
+    cc
+
+nothing_more : (named : Bool) (ended : Option EntryNo) (at : EntryNo) → option_or ended (if named && false then Some at else None) ≡ ended
+nothing_more true None at = refl
+nothing_more true (Some before) at = refl
+nothing_more false None at = refl
+nothing_more false (Some before) at = refl
+
+pub returns-in_default-clause-left_alone : goal.returns-in_default-clause-left_alone
+returns-in_default-clause-left_alone c closed =
+    let test = is_request c.args.request in (
+      refl,
+      record {
+        same = c.settle.ensures.same;
+        waiting = c.settle.ensures.left ∙ sym (all_stay test c.args.bus.now.requests.waiting closed);
+        ended = λ id. c.settle.ensures.ended id
+            ∙ ap (λ (found : Option OpenRequest). option_or (ended_at id c.args.bus.now.requests.ended) (if same_message id c.args.request && is_some found then Some c.args.at else None)) closed
+            ∙ nothing_more (same_message id c.args.request) (ended_at id c.args.bus.now.requests.ended) c.args.at;
+      },
+    )

@@ -1,72 +1,96 @@
-use Rattle.std.proofs.Common.{◌≡◌, ◌+◌, ◌<◌, ◌≤◌, length, take, filter, get_or, ap, sym, ◌∙◌, arith, rules}
+use Rattle.std.proofs.Common.{◌≡◌, ◌+◌, ◌-◌, ◌<◌, ◌++◌, ◌∷◌, [], length, take, drop, filter, ap, sym, ◌∙◌, arith, rules, tests}
 use Rattle.std.proofs.Math.ListN.{length-take}
-use Rattle.std.proofs.lemmas.List.{length_push}
-use Rattle.std.proofs.lemmas.List.Sums.{length-filter, count_by-le-length}
+use Rattle.std.proofs.lemmas.List.{take_all, take_more, length_push}
+use Rattle.std.proofs.lemmas.List.FromFn.{get_or-enumerate_from, length-enumerate_from}
+use Rattle.std.proofs.lemmas.Iterator.{YieldsList-from_slice, YieldsList-from_take}
+use Rattle.std.proofs.lemmas.Iterator.Adapters.{YieldsList-from_skip}
+use Rattle.std.proofs.lemmas.Iterator.Consumers.{YieldsList-at, YieldsList-from_filter, YieldsList-from_enumerate, YieldsList-turn, YieldsList-end}
 use Rattle.vx_call.specs.Items.{is_for}
-use Rattle.vx_core_bus.specs.Stores.{BusStore}
-use Rattle.vx_core_bus.proofs.MadeReady.{freed, freed_more, freed_enough, freed_later, one_seen, none_seen, made_more}
+use Rattle.vx_core_bus.specs.Stores.{BusStore, message_items}
+use Rattle.vx_core_bus.proofs.MadeReady.{made_more}
 use Rattle.vx_core_bus.proofs.rows.flow.make_ready.Goals as goal
-use Rattle.vx_core_bus.proofs.rows.flow.make_ready.Goals.{then-is_for, then-ready-seen+then-place-count, else-ready-seen, else-ready-seen-via-then-ready-seen+else-place-count, else-ready-seen-via-else-ready-seen, else-is_for}
 
-pub overflow_add-seen : goal.overflow_add-seen
-overflow_add-seen c =
-    let test = is_for c.args.consumer in
+pub put-requires : goal.put-requires
+put-requires c =
     let tasks = c.args.bus.now.tasks in
-    let few = length-filter test (take c.loop-task.task-index tasks) in
-    let fewer = count_by-le-length test (take c.loop-task.task-index tasks) in
-    let least = length-take c.loop-task.task-index tasks in
-    let small : c.loop-task.seen ≤ c.loop-task.task-index = omega (arith, few, fewer, least, c.loop-task.invariant.seen) in
-    search (rules, small)
+    let same = c.deref.ensures.value ∙ ap (λ (bus : BusStore). bus.tasks) c.bus.view_is in
+    let free = drop c.saturating_sub-ready.result (filter (is_for c.args.consumer) tasks) in
+    let freed = take c.args.count free in
+    let turn = YieldsList-turn
+    (YieldsList-at c.into_iter-place-iterator.ensures.into_iter_gives
+    (YieldsList-from_enumerate (YieldsList-at c.enumerate-place-items.ensures.source
+    (YieldsList-from_take c.args.count (YieldsList-at c.take.ensures.source
+    (YieldsList-from_skip c.saturating_sub-ready.result (YieldsList-at c.skip.ensures.source
+    (YieldsList-from_filter _ (is_for c.args.consumer) (YieldsList-at c.filter-messages.ensures.source (YieldsList-from_slice tasks (c.iter.ensures.rest ∙ same)))
+    c.filter-messages.ensures.closure (λ x r q k. search (rules, tests))))
+    c.skip.ensures.count)) c.take.ensures.count)) c.enumerate-place-items.ensures.count))
+    c.loop-place.yielded _ c.loop-place.yielded_by _ _ (c.in-Some.place, c.in-Some.task) c.in-Some.is c.next.ensures.steps in
+    let within : length c.loop-place.yielded < length freed = omega (arith, turn.0, length-enumerate_from 0 freed) in
+    omega (arith, within, length-take c.args.count free, c.loop-place.invariant.room, c.requires)
 
-pub loop-task-preserved : goal.loop-task-preserved
-loop-task-preserved c =
-    let test = is_for c.args.consumer in
+pub loop-place-preserved : goal.loop-place-preserved
+loop-place-preserved c =
     let tasks = c.args.bus.now.tasks in
-    let same = c.deref-task-items.ensures.value ∙ ap (λ (bus : BusStore). bus.tasks) c.bus.view_is in
-    let i = c.loop-task.task-index in
-    let task = c.task-item.result in
-    let before = filter test (take i tasks) in
-    let ready = c.saturating_sub-ready.result in
-    let count = c.args.count in
-    let within : i < length tasks = omega (arith, ap length same, c.loop-task-test.true) in
-    let here : task ≡ get_or tasks i task = c.task-item.is ∙ ap (λ ts. get_or ts i task) same in
-    let known = c.loop-task.invariant in
-    elim c.if-is_for.branch [
-      | then-is_for w ↦
-          (let more = one_seen test tasks i task within here (sym c.is_for.ensures ∙ w.if-is_for.true) in
-          let one = ap length more ∙ length_push before task in
-          elim w.if-ready-seen.branch [
-            | then-ready-seen+then-place-count v ↦
-                (let made = ap (freed ready count) more ∙ freed_more ready count before task (omega (arith, known.seen, v.if-ready-seen.true)) (omega (arith, known.place, v.if-place-count.true)) in
-                let length_made = ap length made ∙ length_push (freed ready count before) task in
-                let contexts = w.contexts-is ∙ v.contexts-is in
-                record {
-                  items = rw contexts (made_more c.args.contexts.now c.loop-task.contexts v.put.new.self c.args.at c.args.context c.loop-task.place v.kind_of-kind.result task (freed ready count before) _
-                      known.items v.put.ensures.added v.kind_of-kind.ensures known.place made);
-                  seen = omega (arith, w.seen-is, one, known.seen);
-                  place = omega (arith, w.place-is, v.place-is, length_made, known.place);
-                  room = rw contexts (omega (arith, w.place-is, v.place-is, v.put.ensures.room, known.room));
-                })
-            | else-ready-seen v ↦
-                (let kept : freed ready count (filter test (take (i + 1) tasks)) ≡ freed ready count before = ap (freed ready count) more
-                ∙ elim v.else-ready-seen.branch [
-                  | else-ready-seen-via-then-ready-seen+else-place-count u ↦ freed_enough ready count before task (omega (arith, known.seen, u.if-ready-seen.true)) (omega (arith, known.place, u.if-place-count.false))
-                  | else-ready-seen-via-else-ready-seen u ↦ freed_later ready count before task (omega (arith, known.seen, u.if-ready-seen.false))
-                ] in
-                let contexts = w.contexts-is ∙ v.contexts-is in
-                record {
-                  items = rw contexts (rw kept known.items);
-                  seen = omega (arith, w.seen-is, one, known.seen);
-                  place = omega (arith, w.place-is, v.place-is, ap length kept, known.place);
-                  room = rw contexts (omega (arith, w.place-is, v.place-is, known.room));
-                })
-          ])
-      | else-is_for w ↦
-          (let kept = none_seen test tasks i task within here (sym c.is_for.ensures ∙ w.if-is_for.false) in
-          record {
-            items = rw w.contexts-is (rw kept known.items);
-            seen = omega (arith, w.seen-is, ap length kept, known.seen);
-            place = omega (arith, w.place-is, ap (λ seen. length (freed ready count seen)) kept, known.place);
-            room = rw w.contexts-is (omega (arith, w.place-is, known.room));
-          })
-    ]
+    let same = c.deref.ensures.value ∙ ap (λ (bus : BusStore). bus.tasks) c.bus.view_is in
+    let free = drop c.saturating_sub-ready.result (filter (is_for c.args.consumer) tasks) in
+    let freed = take c.args.count free in
+    let turn = YieldsList-turn
+    (YieldsList-at c.into_iter-place-iterator.ensures.into_iter_gives
+    (YieldsList-from_enumerate (YieldsList-at c.enumerate-place-items.ensures.source
+    (YieldsList-from_take c.args.count (YieldsList-at c.take.ensures.source
+    (YieldsList-from_skip c.saturating_sub-ready.result (YieldsList-at c.skip.ensures.source
+    (YieldsList-from_filter _ (is_for c.args.consumer) (YieldsList-at c.filter-messages.ensures.source (YieldsList-from_slice tasks (c.iter.ensures.rest ∙ same)))
+    c.filter-messages.ensures.closure (λ x r q k. search (rules, tests))))
+    c.skip.ensures.count)) c.take.ensures.count)) c.enumerate-place-items.ensures.count))
+    c.loop-place.yielded _ c.loop-place.yielded_by _ _ (c.in-Some.place, c.in-Some.task) c.in-Some.is c.next.ensures.steps in
+    let within : length c.loop-place.yielded < length freed = omega (arith, turn.0, length-enumerate_from 0 freed) in
+    let n = length c.loop-place.yielded in
+    let task = c.in-Some.task.now in
+    let here = turn.1 ∙ get_or-enumerate_from 0 freed n (c.in-Some.place, task) within in
+    let place : c.in-Some.place ≡ n = omega (arith, ap (λ pair. pair.0) here) in
+    let more : take (n + 1) freed ≡ take n freed ++ task ∷ [] = take_more freed n task within ∙ ap (λ t. take n freed ++ t ∷ []) (sym (ap (λ pair. pair.1) here)) in
+    let longer = length_push c.loop-place.yielded (c.in-Some.place, c.in-Some.task) in
+    record {
+      items = made_more c.args.contexts.now c.loop-place.contexts c.put.new.self c.args.at c.args.context c.in-Some.place c.kind_of.result task (take n freed) _
+          c.loop-place.invariant.items c.put.ensures.added c.kind_of.ensures (omega (arith, place, length-take n freed, within)) (ap (λ m. take m freed) longer ∙ more);
+      room = omega (arith, longer, c.put.ensures.room, c.loop-place.invariant.room);
+    }
+
+pub returns-clause-items : goal.returns-clause-items
+returns-clause-items c =
+    let tasks = c.args.bus.now.tasks in
+    let same = c.deref.ensures.value ∙ ap (λ (bus : BusStore). bus.tasks) c.bus.view_is in
+    let free = drop c.saturating_sub-ready.result (filter (is_for c.args.consumer) tasks) in
+    let freed = take c.args.count free in
+    let end = YieldsList-end
+    (YieldsList-at c.into_iter-place-iterator.ensures.into_iter_gives
+    (YieldsList-from_enumerate (YieldsList-at c.enumerate-place-items.ensures.source
+    (YieldsList-from_take c.args.count (YieldsList-at c.take.ensures.source
+    (YieldsList-from_skip c.saturating_sub-ready.result (YieldsList-at c.skip.ensures.source
+    (YieldsList-from_filter _ (is_for c.args.consumer) (YieldsList-at c.filter-messages.ensures.source (YieldsList-from_slice tasks (c.iter.ensures.rest ∙ same)))
+    c.filter-messages.ensures.closure (λ x r q k. search (rules, tests))))
+    c.skip.ensures.count)) c.take.ensures.count)) c.enumerate-place-items.ensures.count))
+    c.loop-place.yielded _ c.loop-place.yielded_by _ _ c.in-None.is c.next.ensures.steps in
+    let all : length c.loop-place.yielded ≡ length freed = end.1 ∙ length-enumerate_from 0 freed in
+    let ready : c.saturating_sub-ready.result ≡ length (filter (is_for c.args.consumer) tasks) - c.args.held = c.saturating_sub-ready.ensures ∙ ap (λ n. n - c.args.held) c.message_count.ensures in
+    c.loop-place.invariant.items
+    ∙ ap (λ made. record c.args.contexts.now { waiting = c.args.contexts.now.waiting ++ message_items c.args.at c.args.context 0 made; room = c.loop-place.contexts.room })
+    (take_all (length c.loop-place.yielded) freed (omega (arith, all)) ∙ ap (λ n. take c.args.count (drop n (filter (is_for c.args.consumer) tasks))) ready)
+
+pub returns-clause-room : goal.returns-clause-room
+returns-clause-room c =
+    let tasks = c.args.bus.now.tasks in
+    let same = c.deref.ensures.value ∙ ap (λ (bus : BusStore). bus.tasks) c.bus.view_is in
+    let free = drop c.saturating_sub-ready.result (filter (is_for c.args.consumer) tasks) in
+    let freed = take c.args.count free in
+    let end = YieldsList-end
+    (YieldsList-at c.into_iter-place-iterator.ensures.into_iter_gives
+    (YieldsList-from_enumerate (YieldsList-at c.enumerate-place-items.ensures.source
+    (YieldsList-from_take c.args.count (YieldsList-at c.take.ensures.source
+    (YieldsList-from_skip c.saturating_sub-ready.result (YieldsList-at c.skip.ensures.source
+    (YieldsList-from_filter _ (is_for c.args.consumer) (YieldsList-at c.filter-messages.ensures.source (YieldsList-from_slice tasks (c.iter.ensures.rest ∙ same)))
+    c.filter-messages.ensures.closure (λ x r q k. search (rules, tests))))
+    c.skip.ensures.count)) c.take.ensures.count)) c.enumerate-place-items.ensures.count))
+    c.loop-place.yielded _ c.loop-place.yielded_by _ _ c.in-None.is c.next.ensures.steps in
+    let all : length c.loop-place.yielded ≡ length freed = end.1 ∙ length-enumerate_from 0 freed in
+    omega (arith, all, length-take c.args.count free, c.loop-place.invariant.room)
