@@ -19,3 +19,7 @@ pub mod Rising
 pub mod Live
 pub mod Accepted
 pub mod Order
+pub mod Takes
+pub mod Demand
+pub mod Leaving
+pub mod Overlap

@@ -83,7 +83,7 @@ own_context history id (tasks.Deliver consumer message) mine = ap (λ i. option_
 own_context history id (tasks.Outcome request outcome) mine = absurd cc
 
 -- of the tasks of a consumer that wait, the next one of a lane is the first
-first_waits : (history : List Traced) (lane : Lane) (item : Waiting) (id : ConsumerId) → next history lane ≡ Some item → is_for id item.task ≡ true → (rest : List Task) × (own id (tasks_of (waiting history)) ≡ item.task ∷ rest)
+pub first_waits : (history : List Traced) (lane : Lane) (item : Waiting) (id : ConsumerId) → next history lane ≡ Some item → is_for id item.task ≡ true → (rest : List Task) × (own id (tasks_of (waiting history)) ≡ item.task ∷ rest)
 first_waits history lane item id found mine =
     let may = may_be_next history lane in
     let Owned : Waiting → Type 0 = λ x. context_of history x.task ≡ Some x.context in

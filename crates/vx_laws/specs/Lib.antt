@@ -3,3 +3,6 @@ pub mod Deliveries
 pub mod Outcomes
 pub mod Turns
 pub mod Order
+pub mod Demand
+pub mod Leaving
+pub mod Overlap

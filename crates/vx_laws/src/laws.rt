@@ -3,8 +3,11 @@ ghost use Rattle.std.specs.Prelude.{List};
 ghost use Rattle.vx_call.specs.declared.history.Traced.{Traced};
 ghost use Rattle.vx_call.specs.Machine.{IsLegal};
 ghost use Rattle.vx_laws.specs.Deliveries.{DeliversOnce};
+ghost use Rattle.vx_laws.specs.Demand.{TakesAsFetched};
+ghost use Rattle.vx_laws.specs.Leaving.{TakesNothingOnceEnded};
 ghost use Rattle.vx_laws.specs.Order.{TakesInOrder};
 ghost use Rattle.vx_laws.specs.Outcomes.{EndsRequestsOnce};
+ghost use Rattle.vx_laws.specs.Overlap.{HandlersNeverOverlap};
 ghost use Rattle.vx_laws.specs.Turns.{TakesTurns};
 
 /// A message is taken once, or where it was published, once for each consumer.
@@ -27,4 +30,19 @@ pub fn handlers_take_turns()
 /// Pause, Resume and Fetch.
 pub fn messages_are_taken_in_order()
     ensures { (history : List Traced) → IsLegal history → TakesInOrder history }
+{}
+
+/// Behind a Pause of a consumer, and until a Resume of it, it takes at most as many messages as are fetched for it.
+pub fn messages_are_taken_as_fetched()
+    ensures { (history : List Traced) → IsLegal history → TakesAsFetched history }
+{}
+
+/// Behind an Unregister of a consumer it takes no message.
+pub fn ended_consumers_take_nothing()
+    ensures { (history : List Traced) → IsLegal history → TakesNothingOnceEnded history }
+{}
+
+/// Where two handlers of one context begin, the one that began first has ended in between.
+pub fn handlers_never_overlap()
+    ensures { (history : List Traced) → IsLegal history → HandlersNeverOverlap history }
 {}

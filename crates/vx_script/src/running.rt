@@ -7,6 +7,9 @@ ghost use Rattle.vx_laws.specs.Deliveries.{DeliversOnce};
 ghost use Rattle.vx_laws.specs.Outcomes.{EndsRequestsOnce};
 ghost use Rattle.vx_laws.specs.Turns.{TakesTurns};
 ghost use Rattle.vx_laws.specs.Order.{TakesInOrder};
+ghost use Rattle.vx_laws.specs.Demand.{TakesAsFetched};
+ghost use Rattle.vx_laws.specs.Leaving.{TakesNothingOnceEnded};
+ghost use Rattle.vx_laws.specs.Overlap.{HandlersNeverOverlap};
 ghost use Rattle.vx_script.specs.Playing.{history_of};
 ghost use Rattle.vx_script.specs.Outcome.{IsOutcome, IsSettled};
 
@@ -74,12 +77,16 @@ pub fn script<S: Source, K: Sink>(
     // Every reply of the history of good lines is the machine's.
     ensures legal { (bytes : List ℕ) (commands : List Command) → length bytes ≤ LIMIT → commands_of bytes ≡ Ok commands → IsLegal (history_of commands) }
 
-    // In that history each message is delivered once, each request ends once, handlers take turns, and each consumer's
-    // messages are taken in the order in which it accepted them.
+    // In that history each message is delivered once, each request ends once, handlers take turns, each consumer's
+    // messages are taken in the order in which it accepted them, no more of them behind a Pause than are fetched, none
+    // behind its end, and handlers of one context never overlap.
     ensures delivered_once { (bytes : List ℕ) (commands : List Command) → length bytes ≤ LIMIT → commands_of bytes ≡ Ok commands → DeliversOnce (history_of commands) }
     ensures requests_end_once { (bytes : List ℕ) (commands : List Command) → length bytes ≤ LIMIT → commands_of bytes ≡ Ok commands → EndsRequestsOnce (history_of commands) }
     ensures handlers_take_turns { (bytes : List ℕ) (commands : List Command) → length bytes ≤ LIMIT → commands_of bytes ≡ Ok commands → TakesTurns (history_of commands) }
     ensures taken_in_order { (bytes : List ℕ) (commands : List Command) → length bytes ≤ LIMIT → commands_of bytes ≡ Ok commands → TakesInOrder (history_of commands) }
+    ensures taken_as_fetched { (bytes : List ℕ) (commands : List Command) → length bytes ≤ LIMIT → commands_of bytes ≡ Ok commands → TakesAsFetched (history_of commands) }
+    ensures ended_take_nothing { (bytes : List ℕ) (commands : List Command) → length bytes ≤ LIMIT → commands_of bytes ≡ Ok commands → TakesNothingOnceEnded (history_of commands) }
+    ensures never_overlap { (bytes : List ℕ) (commands : List Command) → length bytes ≤ LIMIT → commands_of bytes ≡ Ok commands → HandlersNeverOverlap (history_of commands) }
 
     // Good lines, not too many, are made and answered, unless a read or a write fails, or memory runs out.
     ensures complete { (bytes : List ℕ) (commands : List Command) → words.now ≡ codes "run" ∷ [] → S.left source.old ≡ Some bytes

@@ -1,5 +1,8 @@
 use Rattle.vx_laws.proofs.Deliveries.{delivered_once}
+use Rattle.vx_laws.proofs.Demand.{take_as_fetched}
+use Rattle.vx_laws.proofs.Leaving.{take_nothing}
 use Rattle.vx_laws.proofs.Order.{take_in_order}
+use Rattle.vx_laws.proofs.Overlap.{never_overlap}
 use Rattle.vx_laws.proofs.Requests.{ended_once}
 use Rattle.vx_laws.proofs.Turns.{take_turns}
 use Rattle.vx_script.specs.Playing.{history_of}
@@ -21,6 +24,15 @@ returns-clause-handlers_take_turns g c = λ bytes commands few ok. take_turns (h
 
 pub returns-clause-taken_in_order : goal.returns-clause-taken_in_order
 returns-clause-taken_in_order g c = λ bytes commands few ok. take_in_order (history_of commands) (legal_run bytes commands few ok)
+
+pub returns-clause-taken_as_fetched : goal.returns-clause-taken_as_fetched
+returns-clause-taken_as_fetched g c = λ bytes commands few ok. take_as_fetched (history_of commands) (legal_run bytes commands few ok)
+
+pub returns-clause-ended_take_nothing : goal.returns-clause-ended_take_nothing
+returns-clause-ended_take_nothing g c = λ bytes commands few ok. take_nothing (history_of commands) (legal_run bytes commands few ok)
+
+pub returns-clause-never_overlap : goal.returns-clause-never_overlap
+returns-clause-never_overlap g c = λ bytes commands few ok. never_overlap (history_of commands) (legal_run bytes commands few ok)
 
 pub returns-clause-complete : goal.returns-clause-complete
 returns-clause-complete g c = λ bytes commands words told few ok reads writes.
