@@ -3,42 +3,53 @@
 
 use std::alloc::Global;
 use std::io;
-use vx_call::{Call, End, Lane, Options, Reply, Task};
+use vx_call::{Call, End, Lane, Options, Reply, Task, To, Unmade};
 use vx_data::{Body, BodyView, ContextId, PassNo, Text};
 use vx_hub::Hub;
 
 /// The one caller.
 const PASS: PassNo = PassNo(0);
 
+/// The context in a reply, or none.
+fn context_in(answer: Result<Reply, Unmade>) -> Option<ContextId> {
+    match answer {
+        Ok(Reply::Context(context)) => Some(context),
+        _ => None,
+    }
+}
+
+/// Whether a consumer was registered, or a message was sent to one.
+fn is_made(answer: Result<Reply, Unmade>) -> bool {
+    matches!(
+        answer,
+        Ok(Reply::Consumer(_) | Reply::Sent(To::Consumer(_)))
+    )
+}
+
 /// Makes a context with a consumer, and answers the context.
 fn set_up(hub: &mut Hub) -> Option<ContextId> {
-    let Ok(Reply::Context(context)) = hub.step(PASS, Call::NewContext) else {
-        return None;
-    };
+    let context = context_in(hub.step(PASS, Call::NewContext))?;
     let register = Call::Register {
         context,
         address: Text::constant("news"),
         limit: 1000,
     };
-    match hub.step(PASS, register) {
-        Ok(Reply::Consumer(_)) => Some(context),
-        _ => None,
-    }
+    is_made(hub.step(PASS, register)).then_some(context)
 }
 
-/// Sends a number to the consumer: whether the call was accepted.
+/// Sends a number to the consumer: whether it was sent there.
 fn send(hub: &mut Hub, alloc: Global, number: i64) -> bool {
     let send = Call::Send {
         address: Text::constant("news"),
         body: Body::int(number),
         options: Options::none(alloc),
     };
-    matches!(hub.step(PASS, send), Ok(Reply::Sent(_)))
+    is_made(hub.step(PASS, send))
 }
 
 /// The handler: what it makes of a message.
-fn handler(reply: &Reply) -> Option<i64> {
-    match reply {
+fn handler(reply: Reply) -> Option<i64> {
+    match &reply {
         Reply::Task(
             Task::Deliver {
                 consumer: _,
@@ -54,8 +65,7 @@ fn handler(reply: &Reply) -> Option<i64> {
 
 /// Takes the next task of the context, runs its handler, and ends the task, so that the next handler may run.
 fn run_once(hub: &mut Hub, context: ContextId) -> Option<i64> {
-    let taken = hub.take(PASS, Lane::Own(context));
-    let came = handler(&taken);
+    let came = handler(hub.take(PASS, Lane::Own(context)));
     hub.finish(PASS, End::Done).ok()?;
     came
 }

@@ -38,32 +38,38 @@ fn send(alloc: Global, address: &'static str) -> Call
 }
 
 /// The context in a reply, or none.
-fn context_in(answer: &Result<Reply, Unmade>) -> Option<ContextId> {
+fn context_in(answer: Result<Reply, Unmade>) -> Option<ContextId> {
     match answer {
-        Ok(Reply::Context(context)) => Some(*context),
+        Ok(Reply::Context(context)) => Some(context),
         _ => None,
     }
 }
 
-/// Whether a message was sent to a consumer.
-fn is_sent(answer: &Result<Reply, Unmade>) -> bool {
-    matches!(answer, Ok(Reply::Sent(To::Consumer(_))))
+/// Whether a consumer was registered, or a message was sent to one.
+fn is_made(answer: Result<Reply, Unmade>) -> bool {
+    matches!(
+        answer,
+        Ok(Reply::Consumer(_) | Reply::Sent(To::Consumer(_)))
+    )
 }
 
-fn is_task(reply: &Reply) -> bool {
+fn is_task(reply: Reply) -> bool {
     matches!(reply, Reply::Task(_))
 }
 
 /// The lane of a context of the hub's, with a consumer at an address.
 fn hub_lane(hub: &mut Hub, address: &'static str) -> Option<Lane> {
-    let context = context_in(&hub.step(PASS, Call::NewContext))?;
-    let _ = hub.step(PASS, register(context, address));
-    Some(Lane::Own(context))
+    let context = context_in(hub.step(PASS, Call::NewContext))?;
+    if is_made(hub.step(PASS, register(context, address))) {
+        Some(Lane::Own(context))
+    } else {
+        None
+    }
 }
 
 fn hub_exchange(alloc: Global, hub: &mut Hub, lane: Lane, address: &'static str) -> bool {
-    let sent = is_sent(&hub.step(PASS, send(alloc, address)));
-    let taken = is_task(&hub.take(PASS, lane));
+    let sent = is_made(hub.step(PASS, send(alloc, address)));
+    let taken = is_task(hub.take(PASS, lane));
     let finished = hub.finish(PASS, End::Done).is_ok();
     sent && taken && finished
 }
@@ -86,22 +92,17 @@ fn context<R: Wait>(rt: &R, host: &Host, pass: Pass) -> (Pass, Option<ContextId>
     ensures { place_of result.0 ≡ place_of pass }
 {
     let made = host.apply(rt, pass, Call::NewContext);
-    let context = context_in(&made.result);
-    (made.pass, context)
+    (made.pass, context_in(made.result))
 }
 
-/// With a consumer of the context at an address.
-fn registered<R: Wait>(
-    rt: &R,
-    host: &Host,
-    pass: Pass,
-    context: ContextId,
-    address: &'static str,
-) -> Pass
-    requires { place_of pass ≡ place host.now.shared }
-    ensures { place_of result ≡ place_of pass }
+/// Makes a call: whether a consumer was registered, or a message was sent to one.
+fn make<R: Wait>(rt: &R, host: &Host, pass: Pass, call: Call) -> (Pass, bool)
+    requires place { place_of pass ≡ place host.now.shared }
+    requires plain { is_plain call ≡ true }
+    ensures { place_of result.0 ≡ place_of pass }
 {
-    host.apply(rt, pass, register(context, address)).pass
+    let made = host.apply(rt, pass, call);
+    (made.pass, is_made(made.result))
 }
 
 /// The lane of a context of the pass, with a consumer at an address.
@@ -112,8 +113,8 @@ fn lane<R: Wait>(rt: &R, host: &Host, pass: Pass, address: &'static str) -> (Pas
     let (pass, context) = context(rt, host, pass);
     match context {
         Some(context) => {
-            let pass = registered(rt, host, pass, context, address);
-            (pass, Some(Lane::Own(context)))
+            let (pass, made) = make(rt, host, pass, register(context, address));
+            (pass, made.then_some(Lane::Own(context)))
         }
         None => (pass, None),
     }
@@ -129,12 +130,11 @@ fn exchange<R: Wait + AllocGlobal>(
     requires { place_of pass ≡ place host.now.shared }
     ensures { place_of result.0 ≡ place_of pass }
 {
-    let sent = host.apply(rt, pass, send(rt.alloc(), address));
-    let is_sent = is_sent(&sent.result);
-    let (pass, taken) = host.take(rt, sent.pass, lane);
-    let is_taken = is_task(&taken);
+    let (pass, sent) = make(rt, host, pass, send(rt.alloc(), address));
+    let (pass, taken) = host.take(rt, pass, lane);
+    let taken = is_task(taken);
     let (pass, finished) = host.finish(rt, pass, End::Done);
-    (pass, is_sent && is_taken && finished.is_ok())
+    (pass, sent && taken && finished.is_ok())
 }
 
 /// Sends messages through a host, one after another: whether all calls were accepted.

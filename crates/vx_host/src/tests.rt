@@ -9,7 +9,7 @@ use std::alloc::Global;
 use std::sync::Wait;
 use std::test::Fail;
 use std::thread::{Threads, join};
-use vx_call::{Call, End, Lane, Options, Refusal, Reply, Task, To};
+use vx_call::{Call, End, Lane, Options, Refusal, Reply, Task, To, Unmade};
 use vx_data::{Body, BodyView, ContextId, EntryNo, PassNo, Text};
 
 const CONTEXT: ContextId = ContextId {
@@ -39,19 +39,32 @@ fn send(alloc: Global, number: i64) -> Call
     }
 }
 
+// Whether a message reached a consumer.
+fn is_sent(answer: Result<Reply, Unmade>) -> bool {
+    matches!(answer, Ok(Reply::Sent(To::Consumer(_))))
+}
+
+// Sends a number: whether it reached a consumer.
+fn send_one<R: Wait + AllocGlobal>(rt: &R, host: &Host, pass: Pass, number: i64) -> (Pass, bool)
+    requires { place_of pass ≡ place host.now.shared }
+    ensures { place_of result.0 ≡ place_of pass }
+{
+    let applied = host.apply(rt, pass, send(rt.alloc(), number));
+    (applied.pass, is_sent(applied.result))
+}
+
 // Sends the numbers from `first` on, and gives the pass back where each was sent to the consumer.
 fn send_many<R: Wait + AllocGlobal>(rt: &R, host: &Host, mut pass: Pass, first: i64) -> Option<Pass>
     requires { place_of pass ≡ place host.now.shared }
     ensures { IfSome result (λ after. place_of after ≡ place_of pass) }
 {
+    let mut all_sent = true;
     for number in 0..SENDS {
-        let applied = host.apply(rt, pass, send(rt.alloc(), first.saturating_add(number)));
-        let Ok(Reply::Sent(To::Consumer(_))) = applied.result else {
-            return None;
-        };
-        pass = applied.pass;
+        let (after, sent) = send_one(rt, host, pass, first.saturating_add(number));
+        pass = after;
+        all_sent &= sent;
     }
-    Some(pass)
+    all_sent.then_some(pass)
 }
 
 // Sends in two threads, and joins their passes.
@@ -83,8 +96,8 @@ fn both<R: Threads + Wait + Sync + AllocGlobal>(
     }
 }
 
-fn number_in(reply: &Reply) -> Option<i64> {
-    match reply {
+fn number_in(reply: Reply) -> Option<i64> {
+    match &reply {
         Reply::Task(
             Task::Deliver {
                 consumer: _,
@@ -104,9 +117,10 @@ fn take_number<R: Wait>(rt: &R, host: &Host, pass: Pass) -> (Pass, Option<i64>)
     ensures { place_of result.0 ≡ place_of pass }
 {
     let (pass, reply) = host.take(rt, pass, Lane::Own(CONTEXT));
+    let number = number_in(reply);
     let (pass, ended) = host.finish(rt, pass, End::Done);
     match ended {
-        Ok(()) => (pass, number_in(&reply)),
+        Ok(()) => (pass, number),
         Err(_) => (pass, None),
     }
 }
@@ -139,6 +153,15 @@ fn totals(messages: u64, deliveries: u64) -> Totals {
     }
 }
 
+// The entry that the context or the consumer in a reply is named after.
+fn named_in(answer: Result<Reply, Unmade>) -> Option<u64> {
+    match answer {
+        Ok(Reply::Context(context)) => Some(context.entry.0),
+        Ok(Reply::Consumer(consumer)) => Some(consumer.0.0),
+        _ => None,
+    }
+}
+
 // Makes a call, and answers the entry that the context or the consumer in its reply is named after.
 fn make<R: Wait>(rt: &R, host: &Host, pass: Pass, call: Call) -> (Pass, Option<u64>)
     requires place { place_of pass ≡ place host.now.shared }
@@ -146,12 +169,7 @@ fn make<R: Wait>(rt: &R, host: &Host, pass: Pass, call: Call) -> (Pass, Option<u
     ensures { place_of result.0 ≡ place_of pass }
 {
     let applied = host.apply(rt, pass, call);
-    let named = match &applied.result {
-        Ok(Reply::Context(context)) => Some(context.entry.0),
-        Ok(Reply::Consumer(consumer)) => Some(consumer.0.0),
-        _ => None,
-    };
-    (applied.pass, named)
+    (applied.pass, named_in(applied.result))
 }
 
 // A host with a context that has a consumer.
@@ -248,7 +266,7 @@ fn try_again(host: &Host, busy: BusyCall) -> bool
     requires plain { is_plain busy.call ≡ true }
 {
     match host.try_apply(busy.pass, busy.call) {
-        Ok(applied) => matches!(applied.result, Ok(Reply::Sent(To::Consumer(_)))),
+        Ok(applied) => is_sent(applied.result),
         Err(_) => false,
     }
 }
@@ -291,7 +309,7 @@ fn looks<R: Wait + AllocGlobal>(
     requires { place_of one ≡ place host.now.shared }
 {
     let lane = Lane::Own(CONTEXT);
-    let one = host.apply(rt, one, send(rt.alloc(), 7)).pass;
+    let (one, _) = send_one(rt, host, one, 7);
     let (one, before) = host.look(rt, one, lane);
     let (one, number) = take_number(rt, host, one);
     let (one, after) = host.look(rt, one, lane);
@@ -313,7 +331,7 @@ fn awaits_then_misses<R: Wait + AllocGlobal>(rt: &R, host: &Host, mut one: Pass,
     requires one { place_of one ≡ place host.now.shared }
     requires two { place_of two ≡ place host.now.shared }
 {
-    let _ = host.apply(rt, two, send(rt.alloc(), 7));
+    let _ = send_one(rt, host, two, 7);
     host.await_change(rt, &mut one);
     let lane = Lane::Own(ContextId {
         entry: EntryNo(1),
