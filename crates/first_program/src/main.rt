@@ -12,8 +12,8 @@ const PASS: PassNo = PassNo(0);
 
 /// The context in a reply, or none.
 fn context_in(answer: Result<Reply, Unmade>) -> Option<ContextId> {
-    match answer {
-        Ok(Reply::Context(context)) => Some(context),
+    match &answer {
+        Ok(Reply::Context(context)) => Some(*context),
         _ => None,
     }
 }
@@ -21,7 +21,7 @@ fn context_in(answer: Result<Reply, Unmade>) -> Option<ContextId> {
 /// Whether a consumer was registered, or a message was sent to one.
 fn is_made(answer: Result<Reply, Unmade>) -> bool {
     matches!(
-        answer,
+        &answer,
         Ok(Reply::Consumer(_) | Reply::Sent(To::Consumer(_)))
     )
 }

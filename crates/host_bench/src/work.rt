@@ -39,8 +39,8 @@ fn send(alloc: Global, address: &'static str) -> Call
 
 /// The context in a reply, or none.
 fn context_in(answer: Result<Reply, Unmade>) -> Option<ContextId> {
-    match answer {
-        Ok(Reply::Context(context)) => Some(context),
+    match &answer {
+        Ok(Reply::Context(context)) => Some(*context),
         _ => None,
     }
 }
@@ -48,13 +48,13 @@ fn context_in(answer: Result<Reply, Unmade>) -> Option<ContextId> {
 /// Whether a consumer was registered, or a message was sent to one.
 fn is_made(answer: Result<Reply, Unmade>) -> bool {
     matches!(
-        answer,
+        &answer,
         Ok(Reply::Consumer(_) | Reply::Sent(To::Consumer(_)))
     )
 }
 
 fn is_task(reply: Reply) -> bool {
-    matches!(reply, Reply::Task(_))
+    matches!(&reply, Reply::Task(_))
 }
 
 /// The lane of a context of the hub's, with a consumer at an address.

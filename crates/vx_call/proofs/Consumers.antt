@@ -1,10 +1,11 @@
 -- Live consumers: each has a name of its own, by which it is found.
 use Rattle.std.proofs.Common.{◌≡◌, ℕ, ◌≤◌, ◌<◌, List, [], ◌∷◌, ◌++◌, length, refl, ap, sym, ◌∙◌, subst, arith}
 use Rattle.std.proofs.Common.{◌⊎◌, inl, inr}
-use Rattle.std.specs.Prelude.{Bool, true, false, not, filter, None, Some}
-use Rattle.std.proofs.lemmas.Bool.{eq-eqb, eqb-true}
+use Rattle.std.specs.Prelude.{Bool, true, false, not, ◌==◌, filter, None, Some}
+use Rattle.std.proofs.lemmas.Bool.{and_parts, eq-eqb, eqb-true}
 use Rattle.vx_data.specs.declared.ids.ConsumerId.{ConsumerId}
-use Rattle.vx_data.specs.Ids.{same_consumer}
+use Rattle.vx_data.specs.declared.ids.ContextId.{ContextId}
+use Rattle.vx_data.specs.Ids.{same_consumer, same_context}
 use Rattle.vx_call.specs.declared.call.Call.{Call}
 use Rattle.vx_call.specs.declared.call.Call.TheVariants as calls
 use Rattle.vx_call.specs.declared.history.Consumer.{Consumer}
@@ -29,6 +30,12 @@ pub same_consumer-true : (a b : ConsumerId) → same_consumer a b ≡ true → a
 same_consumer-true a b same =
     let named : ℕ → ConsumerId = λ n. record { 0 = record { 0 = n } } in
     ap named (eqb-true a.0.0 b.0.0 same)
+
+pub same_context-true : (a b : ContextId) → same_context a b ≡ true → a ≡ b
+same_context-true a b same =
+    let both = and_parts (a.entry.0 == b.entry.0) (a.instance == b.instance) same in
+    let named : ℕ → ℕ → ContextId = λ entry instance. record { entry = record { 0 = entry }; instance = instance } in
+    ap (λ n. named n a.instance) (eqb-true a.entry.0 b.entry.0 both.0) ∙ ap (named b.entry.0) (eqb-true a.instance b.instance both.1)
 
 abbrev pub same_by_name : Consumer → Consumer → Bool
 same_by_name a b = same_consumer a.id b.id

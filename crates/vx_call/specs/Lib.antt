@@ -9,11 +9,13 @@ pub mod Messages
 pub mod Choices
 pub mod Arrivals
 pub mod Mailboxes
+pub mod Accepted
 pub mod Given
 pub mod Requests
 pub mod Settled
 pub mod Items
 pub mod Held
+pub mod Senders
 pub mod Next
 pub mod Refusals
 pub mod Rows
@@ -22,4 +24,3 @@ pub mod Plain
 pub mod Unchanged
 pub mod Runs
 pub mod Summary
-pub mod Examples

@@ -5,7 +5,7 @@ use vx_data::{Body, ConsumerId, ContextId, MessageId, Moment, RuleId, Text};
 use vx_message::{CodecForm, Condition, Lane, Options, Side, Verdict};
 
 /// How a task ends.
-#[derive(Clone, Copy, Debug, PartialEq, Eq)]
+#[derive(Clone, Copy, PartialEq, Eq)]
 pub enum End {
     Done,
 }
@@ -105,4 +105,7 @@ impl Call {
     {
         !matches!(self, Call::Take(_) | Call::Finish(_))
     }
+
+    /// Lets go of the call. All forms of calls are gone through here alone, so that the check does so once.
+    pub fn let_go(self) {}
 }

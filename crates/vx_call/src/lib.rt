@@ -4,12 +4,10 @@
 mod call;
 mod history;
 mod reply;
-#[cfg(test)]
-mod tests;
 mod unmade;
 
 pub use call::{Call, End};
 pub use history::{Consumer, Entry, Traced};
 pub use reply::{Refusal, Reply, Task, To};
 pub use unmade::Unmade;
-pub use vx_message::{CodecForm, Condition, Lane, Options, Side, Verdict};
+pub use vx_message::{CodecForm, Condition, Lane, Options, Owner, Side, Verdict};

@@ -72,7 +72,6 @@ pub enum Refusal {
 }
 
 /// What a call is answered.
-#[derive(Drop)]
 pub enum Reply {
     Pass(PassNo),
     Context(ContextId),
@@ -92,4 +91,29 @@ pub enum Reply {
     /// How many requests' time was up.
     Fired(u64),
     Refused(Refusal),
+}
+
+impl Reply {
+    /// Lets go of the reply, as the end of its scope does.
+    pub fn let_go(self) {}
+}
+
+impl Drop for Reply {
+    fn drop(self) {
+        match self {
+            Reply::Pass(_) => {}
+            Reply::Context(_) => {}
+            Reply::Consumer(_) => {}
+            Reply::Sent(_) => {}
+            Reply::Published(_) => {}
+            Reply::Asked(_) => {}
+            Reply::Codec(_) => {}
+            Reply::Rule(_) => {}
+            Reply::Task(_) => {}
+            Reply::Idle => {}
+            Reply::Done => {}
+            Reply::Fired(_) => {}
+            Reply::Refused(_) => {}
+        }
+    }
 }

@@ -4,7 +4,7 @@ ghost use Rattle.vx_consumer.specs.Flows.{arrival, fresh, counted, stopped, resu
 use std::marker::Model;
 
 /// What becomes of a message that reaches a consumer.
-#[derive(Clone, Copy, Debug, PartialEq, Eq)]
+#[derive(Clone, Copy, PartialEq, Eq)]
 pub enum Arrive {
     /// It may be taken.
     Ready,
@@ -16,7 +16,7 @@ pub enum Arrive {
 
 /// How many more messages may be made ready for a consumer, how many are held for it, and how many may be. (Vert.x core
 /// API, `MessageConsumer.pause`, `resume`, `fetch` and `setMaxBufferedMessages`.)
-#[derive(Debug, Drop)]
+#[derive(Drop)]
 pub struct Flow {
     limit: u32,
     /// None: without bound.

@@ -36,9 +36,9 @@ use Rattle.vx_call.proofs.Lasting.{lasting-append, lasting_more}
 use Rattle.vx_call.proofs.Mailboxes.{mailbox_unmoved}
 use Rattle.vx_context.specs.Stores.{ContextStore}
 use Rattle.vx_context.specs.Stands.{IsNext}
-use Rattle.vx_core_bus.specs.Stores.{BusStore, row_of}
-use Rattle.vx_core_bus.specs.Stands.{StoresStand, Follows}
-use Rattle.vx_core_bus.proofs.Frames.{LeavesContexts, LeavesRequests, LeavesConsumers, LeavesTasks, contexts_left, timers_left, requests_left, handlers_left, numbers_left, rings_left, choices_left, tasks_left, ended_left, given_left, codecs_left, rules_left}
+use Rattle.vx_bus_store.specs.Stores.{BusStore, row_of}
+use Rattle.vx_bus_store.specs.Stands.{StoresStand, Follows}
+use Rattle.vx_bus_store.proofs.Frames.{LeavesContexts, LeavesRequests, LeavesConsumers, LeavesTasks, contexts_left, timers_left, requests_left, handlers_left, numbers_left, rings_left, choices_left, tasks_left, ended_left, given_left, codecs_left, rules_left}
 
 -- ## All else stays
 

@@ -1,14 +1,9 @@
-//! The event bus: consumers, the messages and outcomes that wait, and requests.
+//! The calls of the event bus: one `step` over its groups. Codecs and rules come and go here.
 #![tactic(auto)]
 
-mod bus;
 mod dispatch;
-mod flows;
 mod interceptors;
-mod refusals;
-mod rows;
-mod timing;
 
-pub use bus::Bus;
 pub use dispatch::step;
-pub use timing::time_out;
+pub use vx_bus_delivery::time_out;
+pub use vx_bus_store::Bus;

@@ -126,6 +126,10 @@ none_more : (b : Bool) → cond {A = List Traced} b [] [] ≡ []
 none_more true = refl
 none_more false = refl
 
+-- what holds of a history behind which nothing was added holds of the history
+pub nothing_more : (P : List Traced → Type 0) (history : List Traced) (b : Bool) → P (history ++ cond b [] []) → P history
+nothing_more P history b held = subst P (ap (λ es. history ++ es) (none_more b) ∙ append-nil history) held
+
 -- the turn that was split has ended
 pub split_ended : (turn split after : Caller Traced) (b : Bool) → split ≡ record turn { seen = split.seen } → IsLegal (split.seen ++ cond b [] []) → after ≡ split → (after ≡ record turn { seen = after.seen }) × IsLegal after.seen
 split_ended turn split after b same legal is =

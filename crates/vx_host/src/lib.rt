@@ -2,8 +2,6 @@
 #![tactic(auto)]
 
 mod host;
-#[cfg(test)]
-mod tests;
 mod turns;
 
 pub use host::{Applied, BusyCall, Host, Pass};

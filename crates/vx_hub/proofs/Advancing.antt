@@ -26,8 +26,9 @@ use Rattle.vx_call.proofs.Opened.{same_open, same_open-swap, unsettled_apart, Ea
 use Rattle.vx_call.proofs.Settlings.{settlement}
 use Rattle.vx_context.specs.Stores.{ContextStore, item_of}
 use Rattle.vx_context.specs.Stands.{IsNext}
-use Rattle.vx_core_bus.specs.Stores.{BusStore, row_of, timer_of, asker_in}
-use Rattle.vx_core_bus.specs.Stands.{StoresStand, TimesOut}
+use Rattle.vx_bus_store.specs.Stores.{BusStore, row_of, timer_of, asker_in}
+use Rattle.vx_bus_store.specs.Stands.{StoresStand}
+use Rattle.vx_bus_delivery.specs.Ending.{TimesOut}
 use Rattle.vx_hub.specs.Advancing.{Advanced, HasAdvanced, ended_first, is_among, timeouts, timed_out}
 use Rattle.vx_hub.proofs.Requests.{or_none, or_assoc, map-or, map_if, find-map, filter-map, find-filter, filter-both, All-from-map, next_behind, Each-behind, none_before, first_part, same_open-self, found_each, among_more, outcome_items-push}
 

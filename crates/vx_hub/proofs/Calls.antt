@@ -22,10 +22,11 @@ use Rattle.vx_call.proofs.Legal.{legal_more}
 use Rattle.vx_call.proofs.Refused.{refused_unchanged}
 use Rattle.vx_context.specs.Stores.{ContextStore}
 use Rattle.vx_context.specs.Stands.{ContextsFollow}
-use Rattle.vx_core_bus.specs.Stores.{BusStore, is_bus_call}
-use Rattle.vx_core_bus.specs.Stands.{Follows, BusStands, TimersStand, AreOfOneHistory}
+use Rattle.vx_bus_store.specs.Stores.{BusStore}
+use Rattle.vx_core_bus.specs.Calls.{is_bus_call}
+use Rattle.vx_bus_store.specs.Stands.{Follows, BusStands, TimersStand, AreOfOneHistory}
 use Rattle.vx_call.proofs.Mailboxes.{mailbox_unmoved}
-use Rattle.vx_core_bus.proofs.Frames.{LeavesBus, contexts_left, timers_left, numbers_left, bus_left}
+use Rattle.vx_bus_store.proofs.Frames.{LeavesBus, contexts_left, timers_left, numbers_left, bus_left}
 use Rattle.vx_hub.specs.Counts.{with_entry}
 use Rattle.vx_hub.specs.Stores.{HubStore}
 use Rattle.vx_hub.specs.Stands.{PartsStand, PartsFollow, HubStands, StandsFor, Meets, IsOfHistory}

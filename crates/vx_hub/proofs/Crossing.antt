@@ -7,13 +7,13 @@ use Rattle.vx_data.proofs.text.Text.TheSendSync.{the_send as text}
 use Rattle.vx_data.proofs.moment.Moment.TheSendSync.{the_send as moment}
 use Rattle.vx_rules.proofs.codecs.Codecs.TheSendSync.{the_send as codecs}
 use Rattle.vx_rules.proofs.rules.Rules.TheSendSync.{the_send as rules}
-use Rattle.vx_core_bus.proofs.bus.Handler.TheSendSync.{the_send as handler}
+use Rattle.vx_bus_store.proofs.bus.Handler.TheSendSync.{the_send as handler}
 use Rattle.vx_request.proofs.given.GivenOut.TheSendSync.{the_send as given_out}
 use Rattle.vx_request.proofs.requests.Requests.TheSendSync.{the_send as requests}
 use Rattle.vx_ring.proofs.rings.Rings.TheSendSync.{the_send as rings}
 use Rattle.vx_context.proofs.contexts.Contexts.TheSendSync.{the_send as contexts}
 use Rattle.vx_timer.proofs.timers.Timers.TheSendSync.{the_send as timers}
-use Rattle.vx_core_bus.specs.contracts.bus.Bus as bus
+use Rattle.vx_bus_store.specs.contracts.bus.Bus as bus
 use Rattle.vx_hub.specs.contracts.hub.Hub as hub
 
 pub bus_send : IsSend bus.the_row

@@ -9,9 +9,9 @@ use Rattle.vx_call.specs.Items.{waiting}
 use Rattle.vx_call.specs.Next.{next}
 use Rattle.vx_context.specs.Stores.{ContextStore, is_ready}
 use Rattle.vx_context.specs.Stands.{ContextsStand}
-use Rattle.vx_core_bus.specs.Stores.{timer_of}
+use Rattle.vx_bus_store.specs.Stores.{timer_of}
 use Rattle.vx_hub.specs.Looks.{or_less, least_due}
-use Rattle.vx_core_bus.proofs.Positions.{find_from_position, find_from_no_position}
+use Rattle.vx_bus_store.proofs.Positions.{find_from_position, find_from_no_position}
 use Rattle.vx_hub.proofs.RowTake.{place_there}
 
 found_at : {X : Type 0} (p : X → Bool) (xs : List X) (i : ℕ) → position p xs ≡ Some i → is_some (find p xs) ≡ true

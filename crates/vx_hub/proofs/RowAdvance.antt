@@ -31,10 +31,10 @@ use Rattle.vx_call.proofs.Settlings.{settlement, is_settled_as, settled-append}
 use Rattle.vx_call.proofs.ByDue.{is_up, length-by_due, by_due-filter, due_front, due_rest}
 use Rattle.vx_context.specs.Stores.{ContextStore, item_of}
 use Rattle.vx_context.specs.Stands.{ContextsStand}
-use Rattle.vx_core_bus.specs.Stores.{BusStore, row_of, timer_of}
-use Rattle.vx_core_bus.specs.Stands.{StoresStand, BusStands, TimersStand, Follows}
+use Rattle.vx_bus_store.specs.Stores.{BusStore, row_of, timer_of}
+use Rattle.vx_bus_store.specs.Stands.{StoresStand, BusStands, TimersStand, Follows}
 use Rattle.vx_call.proofs.Mailboxes.{mailbox_unmoved}
-use Rattle.vx_core_bus.proofs.Frames.{never_ended, never_taken_back, handlers_left, numbers_left, rings_left, choices_left, codecs_left, rules_left, LeavesConsumers}
+use Rattle.vx_bus_store.proofs.Frames.{never_ended, never_taken_back, handlers_left, numbers_left, rings_left, choices_left, codecs_left, rules_left, LeavesConsumers}
 use Rattle.vx_hub.specs.Advancing.{Advanced, HasAdvanced, ended_first, is_among, timeouts, timed_out}
 use Rattle.vx_hub.proofs.Requests.{map-or, map-map, find-map, filter_same, length-passing, among_passing, any-by_due}
 

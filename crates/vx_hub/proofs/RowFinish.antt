@@ -15,7 +15,7 @@ use Rattle.vx_call.specs.Refusals.{unless_refused, not_holding}
 use Rattle.vx_call.proofs.Lasting.{lasting_same, lasting-append}
 use Rattle.vx_context.specs.Stores.{ContextStore, item_of}
 use Rattle.vx_context.specs.Stands.{ContextsStand, ContextsFollow}
-use Rattle.vx_core_bus.proofs.Frames.{never_ended, waiting_left}
+use Rattle.vx_bus_store.proofs.Frames.{never_ended, waiting_left}
 
 -- the end of a task
 pub ends_task : (old new : ContextStore) (history : List Traced) (pass : PassNo) (end : End) → ContextsStand old history → not_holding history pass ≡ None →

@@ -16,7 +16,7 @@ use Rattle.vx_call.specs.Refusals.{unless_refused, already_holding}
 use Rattle.vx_call.proofs.Lasting.{lasting_same, lasting_more}
 use Rattle.vx_context.specs.Stores.{ContextStore, item_of}
 use Rattle.vx_context.specs.Stands.{ContextsStand, ContextsFollow, IsNext}
-use Rattle.vx_core_bus.proofs.Frames.{never_ended, waiting_left}
+use Rattle.vx_bus_store.proofs.Frames.{never_ended, waiting_left}
 
 -- a new context
 pub makes_context : (old new : ContextStore) (history : List Traced) (at : EntryNo) (pass : PassNo) → ContextsStand old history → IsNext at history → already_holding history pass ≡ None →

@@ -47,10 +47,10 @@ use Rattle.vx_call.proofs.Tasks.{same_task-self, same_task-swap, untaken_apart}
 use Rattle.vx_call.proofs.Waiting.{same_waiting, waiting_apart, waiting_untaken}
 use Rattle.vx_context.specs.Stores.{ContextStore, item_of, runs_in, is_on_lane, is_ready}
 use Rattle.vx_context.specs.Stands.{ContextsStand, IsNext}
-use Rattle.vx_core_bus.specs.Stores.{BusStore, row_of, is_of_kind, has_task, without_first}
-use Rattle.vx_core_bus.specs.Stands.{StoresStand, BusStands, Follows, AreOfOneHistory}
-use Rattle.vx_core_bus.proofs.Frames.{never_ended, never_taken_back, contexts_left, timers_left, bus_left, handlers_left, numbers_left, rings_left, choices_left, requests_left, ended_left, codecs_left, rules_left, LeavesWaiting, LeavesConsumers, LeavesNumbers}
-use Rattle.vx_core_bus.proofs.Positions.{find_from_position, find_from_no_position}
+use Rattle.vx_bus_store.specs.Stores.{BusStore, row_of, is_of_kind, has_task, without_first}
+use Rattle.vx_bus_store.specs.Stands.{StoresStand, BusStands, Follows, AreOfOneHistory}
+use Rattle.vx_bus_store.proofs.Frames.{never_ended, never_taken_back, contexts_left, timers_left, bus_left, handlers_left, numbers_left, rings_left, choices_left, requests_left, ended_left, codecs_left, rules_left, LeavesWaiting, LeavesConsumers, LeavesNumbers}
+use Rattle.vx_bus_store.proofs.Positions.{find_from_position, find_from_no_position}
 use Rattle.vx_hub.proofs.Views.{remove-map, position-map, without_first-apart, alone}
 
 -- ## The next task of a lane

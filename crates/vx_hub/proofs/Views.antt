@@ -9,7 +9,7 @@ use Rattle.vx_call.specs.declared.reply.Task.TheVariants as tasks
 use Rattle.vx_call.specs.Items.{same_task}
 use Rattle.vx_call.proofs.Each.{Each, weaken}
 use Rattle.vx_call.proofs.Apart.{Apart}
-use Rattle.vx_core_bus.specs.Stores.{without_first}
+use Rattle.vx_bus_store.specs.Stores.{without_first}
 
 -- ## A part of each
 

@@ -13,7 +13,7 @@ use Rattle.vx_call.specs.Settled.{timeout, settlements}
 use Rattle.vx_call.specs.declared.reply.Task.{Task}
 use Rattle.vx_call.specs.Items.{Waiting, outcome_items, outcome_tasks}
 use Rattle.vx_context.specs.Stores.{ContextStore, item_of}
-use Rattle.vx_core_bus.specs.Stores.{BusStore, row_of, timer_of}
+use Rattle.vx_bus_store.specs.Stores.{BusStore, row_of, timer_of}
 
 -- the open requests by due moment, of which the first so many have ended
 abbrev pub ended_first : List Traced → ℕ → List Open

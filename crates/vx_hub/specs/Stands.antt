@@ -13,8 +13,8 @@ use Rattle.vx_call.specs.Requests.{now}
 use Rattle.vx_call.specs.Machine.{row, answer, extended, IsLegal}
 use Rattle.vx_call.specs.Unchanged.{IsUnchanged}
 use Rattle.vx_context.specs.Stores.{ContextStore}
-use Rattle.vx_core_bus.specs.Stores.{BusStore}
-use Rattle.vx_core_bus.specs.Stands.{StoresStand}
+use Rattle.vx_bus_store.specs.Stores.{BusStore}
+use Rattle.vx_bus_store.specs.Stands.{StoresStand}
 use Rattle.vx_hub.specs.Counts.{counted}
 use Rattle.vx_hub.specs.Stores.{HubStore}
 

@@ -2,7 +2,7 @@
 use Rattle.std.specs.Prelude.{ℕ, List}
 use Rattle.vx_timer.specs.declared.timers.Timer.{Timer}
 use Rattle.vx_context.specs.Stores.{ContextStore}
-use Rattle.vx_core_bus.specs.Stores.{BusStore}
+use Rattle.vx_bus_store.specs.Stores.{BusStore}
 use Rattle.vx_hub.specs.Counts.{Counted}
 
 -- what is counted, how many passes there are, the moment in ms, and the stores

@@ -2,7 +2,7 @@ ghost use Rattle.std.specs.Prelude.{◌≡◌, ◌<◌, ◌≤◌, ◌^◌, List
 ghost use Rattle.vx_call.specs.declared.history.Traced.{Traced};
 ghost use Rattle.vx_call.specs.Plain.{is_plain, takes_no_memory};
 ghost use Rattle.vx_context.specs.Stands.{IsNext};
-ghost use Rattle.vx_core_bus.specs.Stands.{HavePlaces, AreOfOneHistory};
+ghost use Rattle.vx_bus_store.specs.Stands.{HavePlaces, AreOfOneHistory};
 ghost use Rattle.vx_hub.specs.Stands.{StandsFor, PartsStand, PartsFollow, Meets, Keeps, finished};
 
 use crate::counts::{Counts, delivers, has_made, makes_message};
@@ -34,7 +34,7 @@ pub struct Hub {
 }
 
 impl Model for Hub {
-    ghost use Rattle.vx_core_bus.specs.Stands.{HavePlaces};
+    ghost use Rattle.vx_bus_store.specs.Stands.{HavePlaces};
     ghost use Rattle.vx_hub.specs.Stores.{HubStore};
     ghost use Rattle.vx_hub.specs.Stands.{IsOfHistory};
 
@@ -108,6 +108,7 @@ impl Hub {
     {
         let at = self.counts.entries();
         if at >= LIMIT {
+            call.let_go();
             return Ok(Reply::Refused(Refusal::Spent));
         }
         let makes = makes_message(&call);

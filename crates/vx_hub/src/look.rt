@@ -9,7 +9,7 @@ use crate::hub::Hub;
 use vx_call::Lane;
 
 /// What a lane has.
-#[derive(Clone, Copy, Debug, PartialEq, Eq)]
+#[derive(Clone, Copy, PartialEq, Eq)]
 pub enum Look {
     /// A next task, which a Take by the lane's pass would hand out, if the pass holds none.
     Ready,

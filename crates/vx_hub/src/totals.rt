@@ -8,7 +8,7 @@ use crate::hub::Hub;
 use vx_data::NoMemory;
 
 /// How much was done in a history. A refused call counts for none of them.
-#[derive(Clone, Copy, Debug, PartialEq, Eq)]
+#[derive(Clone, Copy, PartialEq, Eq)]
 pub struct Totals {
     /// Deployments that were made: 0 so far.
     pub deployments: u64,

@@ -1,5 +1,5 @@
 -- What stands as a value is read.
-use Rattle.std.proofs.Common.{◌≡◌, refl, sym, ◌∙◌, ap, ℕ, zero, suc, max, ◌+◌, ◌^◌, ◌<◌, ◌≤◌, ◌⊎◌, inl, inr, List, [], ◌∷◌, ◌++◌, length, map, Bool, true, false, cond, Option, Some, None, option_map, option_and_then, arith, append_assoc, append-nil, length-append}
+use Rattle.std.proofs.Common.{◌≡◌, refl, sym, ◌∙◌, ap, ℕ, zero, suc, ◌^◌, ◌<◌, ◌≤◌, List, [], ◌∷◌, ◌++◌, length, map, Bool, true, false, cond, Option, None, option_map, option_and_then, arith, append_assoc, append-nil, length-append}
 use mathlib.Core.Path.{subst}
 use mir.Syntax.{w64}
 use lib.Signed.{mag}
@@ -10,8 +10,7 @@ use Rattle.std.specs.Prelude.{codes, FitsSigned, ℤ}
 use Rattle.std.proofs.lemmas.Bool.Decides.{Decides-eqb, nat_tests}
 use Rattle.vx_data.specs.Tree.{Tree, null, boolean, int, text, bytes, array, object, Elements, no_elements, element, Members, no_members, member}
 use Rattle.vx_data.specs.Bodies.{tree_depth, deepest_element, deepest_member}
-use Rattle.vx_json.specs.Grammar.{is_blank, IsBlank, IsPadded, IsPair, IsValue, AreElements, AreMoreElements, AreMembers, AreMoreMembers}
-use Rattle.vx_json.specs.Texts.{IsQuoted, spelling}
+use Rattle.vx_json.specs.Grammar.{is_blank, IsBlank, IsValue, AreElements, AreMoreElements, AreMembers, AreMoreMembers}
 use Rattle.vx_json.specs.Reading.{Reader, skip, after, is_numeral, next_first, next_at, more_or_last, items_at, list_begun, list_at, element_at, pair_at, quoted_at, text_at, number_at, seen_as, with_front, word_at, scalar_at, array_at, object_at, value_with, value_at, kept_array, kept_object}
 use Rattle.vx_json.proofs.Keeping.{kept, kept_elements, kept_members}
 use Rattle.vx_json.proofs.Options.{read}
@@ -31,7 +30,7 @@ unfolding skip
 skip_none b bs h = ap (λ test. cond test (skip bs) (b ∷ bs)) h
 
 -- white space, and then a byte that is none
-skip_to : (blank bs : List ℕ) (b : ℕ) → IsBlank blank → is_blank b ≡ false → skip (blank ++ b ∷ bs) ≡ b ∷ bs
+pub skip_to : (blank bs : List ℕ) (b : ℕ) → IsBlank blank → is_blank b ≡ false → skip (blank ++ b ∷ bs) ≡ b ∷ bs
 skip_to blank bs b h k = skip_over blank (b ∷ bs) h ∙ skip_none b bs k
 
 blank_is_no_numeral : (b : ℕ) → is_blank b ≡ true → is_numeral b ≡ false
@@ -101,7 +100,7 @@ few_more : {A : Type 0} (P : A → List ℕ → Type 0) (xs : List A) (more : Li
 few_more P [] more h = omega arith
 few_more P (x ∷ xs) more h = omega (arith, ap length h.2, length-append h.0 h.1, few_more P xs h.1 h.4)
 
-few_items : {A : Type 0} (P : A → List ℕ → Type 0) (x : A) (xs : List A) (inside : List ℕ) (closing : ℕ) (rest : List ℕ) → Separated P x xs inside → length xs < length (inside ++ closing ∷ rest)
+pub few_items : {A : Type 0} (P : A → List ℕ → Type 0) (x : A) (xs : List A) (inside : List ℕ) (closing : ℕ) (rest : List ℕ) → Separated P x xs inside → length xs < length (inside ++ closing ∷ rest)
 few_items P x xs inside closing rest parts = omega (arith, ap length parts.spelled, length-append parts.here parts.more, few_more P xs parts.more parts.others, length-append inside (closing ∷ rest))
 
 -- ---- how a value begins
@@ -201,14 +200,14 @@ more_listed : (n : ℕ) (es : Elements) (all : List ℕ) → AreMoreElements es 
 more_listed n no_elements all h deep = h
 more_listed n (element t es) all h deep = (h.0, h.1, h.2, (h.3, omega arith), more_listed n es h.1 h.4 (omega arith))
 
-no_items : (closing : ℕ) {A : Type 0} (item : Reader A) (inside rest : List ℕ) → Closing closing → IsBlank inside → list_at closing item (inside ++ closing ∷ rest) ≡ read [] rest
+pub no_items : (closing : ℕ) {A : Type 0} (item : Reader A) (inside rest : List ℕ) → Closing closing → IsBlank inside → list_at closing item (inside ++ closing ∷ rest) ≡ read [] rest
 unfolding list_at
 no_items closing item inside rest is h =
     ap (list_begun closing item) (skip_to inside rest closing h is.0)
     ∙ ap (λ test. cond test (read [] rest) (items_at closing item (length (closing ∷ rest)) (closing ∷ rest))) ((Decides-eqb closing closing).1 refl)
 
 -- some items, when the white space before them is passed
-some_items : (closing : ℕ) {A : Type 0} (item : Reader A) (bs : List ℕ) (first : ℕ) (more : List ℕ) → skip bs ≡ first ∷ more → (first == closing) ≡ false → list_at closing item bs ≡ items_at closing item (length (first ∷ more)) (first ∷ more)
+pub some_items : (closing : ℕ) {A : Type 0} (item : Reader A) (bs : List ℕ) (first : ℕ) (more : List ℕ) → skip bs ≡ first ∷ more → (first == closing) ≡ false → list_at closing item bs ≡ items_at closing item (length (first ∷ more)) (first ∷ more)
 unfolding list_at
 some_items closing item bs first more is h =
     ap (list_begun closing item) is ∙ ap (λ test. cond test (read [] more) (items_at closing item (length (first ∷ more)) (first ∷ more))) h

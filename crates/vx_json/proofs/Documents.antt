@@ -1,20 +1,18 @@
 -- Whole texts, and the answers to them.
-use Rattle.std.proofs.Common.{◌≡◌, refl, sym, ◌∙◌, ap, ℕ, suc, ◌<◌, ◌≤◌, ◌⊎◌, inl, inr, List, [], ◌∷◌, ◌++◌, Option, Some, None, Ok, Err, option_and_then, arith, append_assoc, append-nil}
-use mathlib.Core.Path.{subst}
+use Rattle.std.proofs.Common.{◌≡◌, refl, sym, ◌∙◌, ap, ℕ, ◌<◌, ◌≤◌, ◌⊎◌, inl, inr, List, [], ◌∷◌, ◌++◌, Some, None, Ok, Err, option_and_then, arith, append-nil}
 use Rattle.std.proofs.lemmas.Option.{option_and_then_some}
 use Rattle.vx_data.specs.Tree.{Tree}
 use Rattle.vx_data.specs.Bodies.{tree_depth}
-use Rattle.vx_json.specs.Grammar.{settled, IsBlank, IsPadded, IsValue, IsJson}
+use Rattle.vx_json.specs.Grammar.{settled, IsBlank, IsJson}
 use Rattle.vx_json.specs.Reading.{skip, value_at, if_last, json_of}
 use Rattle.vx_json.specs.Answers.{IsAnswer}
 use Rattle.vx_json.specs.Gives.{Fails}
 use Rattle.vx_json.specs.declared.fault.JsonFault.{JsonFault}
 use Rattle.vx_json.specs.declared.fault.JsonFault.TheVariants.{BadJson, Deep, NoMemory}
-use Rattle.vx_json.proofs.Keeping.{kept, keeps, Keeps, within_or_deep}
-use Rattle.vx_json.proofs.Options.{read}
-use Rattle.vx_json.proofs.SoundValues.{Found, value_sound, Skips, skip_sound}
-use Rattle.vx_json.proofs.CompleteTexts.{Stops}
-use Rattle.vx_json.proofs.CompleteValues.{complete, skip_over, skip_value, starts, stops_at_blank, regroup}
+use Rattle.vx_json.specs.Keeps.{Keeps}
+use Rattle.vx_json.proofs.Keeping.{kept, keeps, within_or_deep}
+use Rattle.vx_json.proofs.SoundValues.{value_sound, skip_sound}
+use Rattle.vx_json.proofs.CompleteValues.{complete, skip_over, skip_value, starts, stops_at_blank}
 
 pub record FoundJson (bs : List ℕ) (k : Tree) : Type 0 where
   pub tree : Tree

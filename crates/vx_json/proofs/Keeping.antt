@@ -1,14 +1,15 @@
 -- What the reader keeps of a value, against the body of the value.
-use Rattle.std.proofs.Common.{◌≡◌, refl, sym, ◌∙◌, ap, ℕ, suc, max, ◌+◌, ◌<◌, ◌≤◌, ◌⊎◌, inl, inr, List, [], ◌∷◌, ◌++◌, map, Bool, true, false, cond, nat_cmp, Ordering, Less, Equal, Greater, arith}
+use Rattle.std.proofs.Common.{◌≡◌, refl, sym, ◌∙◌, ap, ℕ, suc, max, ◌<◌, ◌≤◌, ◌⊎◌, inl, inr, List, [], ◌∷◌, map, Bool, true, false, cond, nat_cmp, Ordering, Less, Equal, Greater, arith}
 use mathlib.Core.Path.{subst}
 use Rattle.std.specs.Cmp.Lexicographic.{slice_cmp}
 use Rattle.std.specs.List.{AllByRecursion}
 use Rattle.std.specs.Ordering.{match_ordering}
-use Rattle.std.specs.Prelude.{nat_lt, nat_le}
+use Rattle.std.specs.Prelude.{nat_le}
 use Rattle.std.proofs.lemmas.Bool.Decides.{nat_tests}
 use Rattle.vx_data.specs.Tree.{Tree, null, boolean, int, text, bytes, array, object, Elements, no_elements, element, Members, no_members, member}
 use Rattle.vx_data.specs.Bodies.{elements, tree_depth, deepest_element, deepest_member, put, put_all, gathered}
 use Rattle.vx_json.specs.Grammar.{settled, settled_elements, settled_members}
+use Rattle.vx_json.specs.Keeps.{Keeps}
 use Rattle.vx_json.specs.Reading.{kept_array, kept_object, first_deep, is_deep}
 
 -- the reader's value of each value of a text
@@ -29,11 +30,6 @@ abbrev mutual
   pub kept_members : Members → List (List ℕ × Tree)
   kept_members no_members = []
   kept_members (member k t ms) = (k, kept t) ∷ kept_members ms
-
--- it is the body, up to the depth of 100, and else as deep as a body may be
-pub record Keeps (k s : Tree) : Type 0 where
-  pub exact : tree_depth s ≤ 100 → k ≡ s
-  pub deep : 100 < tree_depth s → tree_depth k ≡ 101
 
 side : (test : Bool) (n : ℕ) → test ≡ nat_le n 100 → (n ≤ 100) ⊎ (100 < n)
 side true n is = inl (grind (arith, nat_tests))

@@ -1,11 +1,11 @@
 -- How a text is read, as functions on lists, for private clauses. A function answers what it reads and the bytes behind it, or nothing.
-use Rattle.std.specs.Prelude.{◌≡◌, ℕ, zero, suc, ◌^◌, ◌*◌, ◌+◌, ◌-◌, ◌&&◌, ◌||◌, ◌==◌, nat_lt, nat_le, List, [], ◌∷◌, ◌++◌, length, drop, map, Bool, true, false, cond, ℤ, Option, Some, None, option_map, option_and_then, codes}
+use Rattle.std.specs.Prelude.{ℕ, zero, suc, ◌^◌, ◌&&◌, ◌||◌, ◌==◌, nat_lt, nat_le, List, [], ◌∷◌, ◌++◌, length, drop, map, Bool, true, false, cond, ℤ, Option, Some, None, option_map, option_and_then, codes}
 use Rattle.std.specs.Fmt.{signed_decimal}
 use Rattle.std.specs.Char.{encode_utf8}
 use Rattle.std.specs.Str.{bytes_eq, is_utf8}
 use Rattle.std.specs.Str.Parse.{signed_digits_value}
 use lib.Signed.{mag}
-use Rattle.vx_data.specs.Tree.{Tree, null, boolean, int, text, array, object, no_elements, no_members}
+use Rattle.vx_data.specs.Tree.{Tree, null, boolean, int, text, array, object}
 use Rattle.vx_data.specs.Bodies.{elements, gathered, tree_depth, deepest_element, deepest_member}
 use Rattle.vx_json.specs.Grammar.{is_blank, max_nesting, max_read_depth}
 use Rattle.vx_json.specs.Texts.{Code, is_code, value, joint, unescaped}

@@ -15,7 +15,7 @@ use std::alloc::Global;
 use vx_data::Body;
 
 /// How deep a text may nest arrays and objects.
-const MAX_NESTING: u32 = 127;
+pub const MAX_NESTING: u32 = 127;
 
 /// The body of a JSON text: RFC 8259, with whole numbers from -2^63 to 2^63 - 1 alone, written
 /// without point, exponent or leading zero, and not as `-0`. White space may stand round it. Of a

@@ -3,7 +3,7 @@ use Rattle.std.proofs.Common.{◌≡◌, ℕ, ◌<◌, ◌≤◌, List, [], ◌�
 use Rattle.std.proofs.Common.{inl, inr}
 use Rattle.std.specs.Prelude.{◌≢◌, ◌⊎◌, Bool, true, false, not, ◌&&◌, cond, filter, find, is_some, Option, None, Some}
 use Rattle.std.specs.Option.{option_or}
-use Rattle.std.proofs.lemmas.Bool.{and_parts, eq-eqb, eqb-true}
+use Rattle.std.proofs.lemmas.Bool.{and_parts, eq-eqb}
 use Rattle.std.proofs.lemmas.List.{length_push}
 use Rattle.std.proofs.lemmas.List.Folds.{find-append}
 use Rattle.vx_data.specs.declared.ids.ConsumerId.{ConsumerId}
@@ -26,6 +26,7 @@ use Rattle.vx_call.specs.Messages.{received}
 use Rattle.vx_call.specs.Arrivals.{addressed}
 use Rattle.vx_call.specs.Mailboxes as mailboxes
 use Rattle.vx_call.specs.Mailboxes.{accepting}
+use Rattle.vx_call.specs.Accepted.{accepted_made, accepted_kind, accepted}
 use Rattle.vx_call.specs.Settled.{settled_made}
 use Rattle.vx_call.specs.Items.{hands_out, is_for, same_task, delivery_tasks, outcome_tasks, task_kind, task_made, task_ended, untaken}
 use Rattle.vx_call.proofs.Lasting.{lasting-append}
@@ -36,8 +37,9 @@ use Rattle.vx_call.proofs.Messages.{received_id}
 use Rattle.vx_call.proofs.Consumers.{IsLive, same_consumer-true, live_earlier, live_came}
 use Rattle.vx_call.proofs.Arrivals.{accepting_live}
 use Rattle.vx_call.proofs.Tasks.{deliver}
-use Rattle.vx_laws.specs.Order.{accepted_made, accepted_kind, accepted, IsTakenBefore}
+use Rattle.vx_laws.specs.Order.{IsTakenBefore}
 use Rattle.vx_laws.proofs.Splits.{slice_get-at, slice_get-front}
+use Rattle.vx_laws.proofs.Taken.{same_message-true}
 
 -- whether it is the task that hands this message to this consumer
 abbrev pub is_message : ConsumerId → MessageId → Task → Bool
@@ -73,11 +75,6 @@ over_on history new id earlier over consumer is_live is_id =
       | inl stays ↦ over consumer stays.was is_id
       | inr is_new ↦ (let e = ap (λ (i : ConsumerId). i.0.0) is_id in absurd (omega arith))
     ]
-
-pub same_message-true : (a b : MessageId) → same_message a b ≡ true → a ≡ b
-same_message-true a b same =
-    let by_number : ℕ → MessageId = λ n. record { 0 = record { 0 = n } } in
-    ap by_number (eqb-true a.0.0 b.0.0 same)
 
 -- what is the same task as the one that hands this message to this consumer does so too
 given_same : (id : ConsumerId) (named : MessageId) (given task : Task) → same_task given task ≡ true → is_message id named task ≡ true → (message : Message) × (given ≡ tasks.Deliver id message) × (message.id ≡ named)

@@ -1,6 +1,6 @@
 -- Requests whose message had one receiver, which is gone.
-use Rattle.std.proofs.Common.{◌≡◌, ℕ, ◌<◌, List, [], ◌∷◌, ◌++◌, length, refl, ap, sym, ◌∙◌, subst, append_assoc, arith, inl, inr}
-use Rattle.std.specs.Prelude.{◌≢◌, true, false, not, ◌&&◌, is_some, None, Some}
+use Rattle.std.proofs.Common.{◌≡◌, ℕ, ◌<◌, List, [], ◌∷◌, ◌++◌, length, refl, ap, sym, ◌∙◌, subst, append_assoc, arith}
+use Rattle.std.specs.Prelude.{true, false, not, ◌&&◌, Option, None, Some}
 use Rattle.std.proofs.lemmas.Bool.{and_parts, not-true}
 use Rattle.std.proofs.lemmas.List.{length_push}
 use Rattle.vx_data.specs.declared.ids.ConsumerId.{ConsumerId}
@@ -23,9 +23,10 @@ use Rattle.vx_call.specs.Items.{task_kind, task_ended, untaken}
 use Rattle.vx_call.proofs.Each.{Each, Each-map, Each-filter, weaken, accepted, lasting_each}
 use Rattle.vx_call.proofs.Opened.{open_key}
 use Rattle.vx_laws.proofs.Splits.{same_cut}
-use Rattle.vx_laws.proofs.Origins.{IsChosen, Reaches, Origin, HasOrigin, accepting_reached, untaken_origins}
-use Rattle.vx_laws.proofs.Taken.{takes_push, taken_given}
-use Rattle.vx_laws.proofs.Nobody.{IsOtherMessage, NobodyGets, new_other, left_after}
+use Rattle.vx_laws.proofs.Agains.{again_of, asks_again}
+use Rattle.vx_laws.proofs.Origins.{IsChosen, Reaches, Origin, HasAgain, HasOrigin, accepting_reached, untaken_origins}
+use Rattle.vx_laws.proofs.Givings.{IsOtherAgain, IsOtherMessage, not_given}
+use Rattle.vx_laws.proofs.Nobody.{NobodyGets, new_other, left_after}
 
 -- the message was made by a Request, which chose this consumer
 pub record AskedOf (history : List Traced) (request : MessageId) (receiver : ConsumerId) : Type 0 where
@@ -104,6 +105,16 @@ one_receiver history request receiver consumer asked origin =
     let same : Some consumer ≡ Some receiver = sym now ∙ its in
     cc
 
+-- such a message is none by which an asker is asked
+other_again : (history : List Traced) (request : MessageId) (receiver : ConsumerId) (again : Option MessageId) → AskedOf history request receiver → HasAgain history again → IsOtherAgain request again
+other_again history request receiver None asked origin = tt
+other_again history request receiver (Some again) asked origin = λ same.
+    (let at : length origin.before ≡ length asked.before = origin.at ∙ ap (λ (m : MessageId). m.0.0) same ∙ sym asked.at in
+    let cut = same_cut origin.before origin.after origin.new asked.before asked.after asked.new (sym origin.parts ∙ asked.parts) at in
+    let is_call : origin.new.entry.call ≡ calls.Request asked.context asked.address asked.body asked.options asked.time = ap (λ (t : Traced). t.entry.call) cut.items ∙ asked.called in
+    let no : false ≡ true = sym (ap asks_again is_call) ∙ origin.asks in
+    absurd cc)
+
 -- what is there for the consumer goes with it
 other_stays : (history : List Traced) (new : Traced) (id : ConsumerId) (request : MessageId) (receiver : ConsumerId) (task : Task) →
     is_accepted new.entry.reply ≡ true → new.entry.call ≡ calls.Unregister id → same_consumer id receiver ≡ true → AskedOf history request receiver →
@@ -115,7 +126,7 @@ other_stays history new id request receiver (tasks.Deliver consumer message) ok 
     let ended : (is_accepted new.entry.reply && task_ended history new.entry.call new.entry.reply task) ≡ true =
     ap (λ b. b && task_ended history new.entry.call new.entry.reply task) ok ∙ ap (λ call. task_ended history call new.entry.reply task) is_call ∙ gone in
     cc)
-other_stays history new id request receiver (tasks.Outcome other outcome) ok is_call named asked origin stays = tt
+other_stays history new id request receiver (tasks.Outcome other outcome) ok is_call named asked origin stays = other_again history request receiver (again_of outcome) asked origin
 
 -- the consumer had accepted the message, and no Take gave it out
 pub record IsLost (history : List Traced) (id : ConsumerId) (request : Open) : Type 0 where
@@ -148,13 +159,5 @@ nobody_left history new id request ok is_call before from is_lost =
           (λ task stays origin. other_stays history new id request.id is_lost.receiver task ok is_call is_lost.named asked origin (not-true (ended_by task_kind history new task) stays))
           (untaken_origins history))
           (new_other history new request.id before);
-      taken = λ i lane consumer message takes.
-          elim (takes_push history new i lane (tasks.Deliver consumer message) takes) as (λ _. message.id ≢ request.id) [
-            | inl old ↦ λ same.
-                (let g = taken_given history i lane consumer message old in
-                let yes : is_given history request.id ≡ true = ap (is_given history) (sym same) ∙ ap is_some g.1 in
-                let no : is_given history request.id ≡ false = is_lost.untaken in
-                cc)
-            | inr take ↦ (let e : calls.Take lane ≡ calls.Unregister id = sym take.0 ∙ is_call in absurd cc)
-          ];
+      untaken = not_given history new request.id is_lost.untaken (λ lane task take. (let e : calls.Take lane ≡ calls.Unregister id = sym take.0 ∙ is_call in absurd cc));
     }

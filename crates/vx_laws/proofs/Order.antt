@@ -23,6 +23,7 @@ use Rattle.vx_call.specs.History.{is_accepted, made_by}
 use Rattle.vx_call.specs.Consumers.{is_named, registered, live}
 use Rattle.vx_call.specs.Given.{context_of}
 use Rattle.vx_call.specs.Mailboxes.{accepting}
+use Rattle.vx_call.specs.Accepted.{accepted_made, accepted_kind, accepted}
 use Rattle.vx_call.specs.Items.{Waiting, is_for, untaken, waiting}
 use Rattle.vx_call.specs.Held.{runs}
 use Rattle.vx_call.specs.Next.{is_on, next}
@@ -38,11 +39,12 @@ use Rattle.vx_call.proofs.Items.{tasks_of}
 use Rattle.vx_call.proofs.Parts.{own}
 use Rattle.vx_call.proofs.Ready.{stands}
 use Rattle.vx_call.proofs.Owners.{waiting_owned}
-use Rattle.vx_laws.specs.Order.{accepted_made, accepted_kind, accepted, IsTakenBefore, TakesInOrder}
+use Rattle.vx_laws.specs.Order.{IsTakenBefore, TakesAsAccepted, TakesInOrder}
 use Rattle.vx_laws.proofs.Handed.{Handed, handed, handed_task}
 use Rattle.vx_laws.proofs.Rising.{is_late, untaken_in_time}
 use Rattle.vx_laws.proofs.Live.{IsForLive, untaken_live}
-use Rattle.vx_laws.proofs.Accepted.{is_message, IsThere, Became, taken_on, same_message-true, accepted_became}
+use Rattle.vx_laws.proofs.Taken.{same_message-true}
+use Rattle.vx_laws.proofs.Accepted.{is_message, IsThere, Became, taken_on, accepted_became}
 
 -- ## The first that waits
 
@@ -209,6 +211,11 @@ taken_before history number lane id message named take has lt =
           ])
     ]
 
-pub take_in_order : (history : List Traced) → IsLegal history → TakesInOrder history
-take_in_order history legal = λ number lane consumer message id takes has lt.
+takes_as_accepted : (history : List Traced) → IsLegal history → TakesAsAccepted history
+takes_as_accepted history legal = λ number lane consumer message id takes has lt.
     taken_before history number lane consumer message id (handed history number lane (tasks.Deliver consumer message) legal takes) has lt
+
+pub take_in_order : (history : List Traced) → IsLegal history → TakesInOrder history
+take_in_order history legal =
+    let in_order = takes_as_accepted history legal in
+    record { as_accepted = in_order; as_sent = λ who number lane consumer message id takes has sends its lt. in_order number lane consumer message id takes has lt }

@@ -1,6 +1,6 @@
--- The entry that a message for a consumer comes from.
+-- The entries that messages come from.
 use Rattle.std.proofs.Common.{◌≡◌, ℕ, List, [], ◌∷◌, ◌++◌, length, refl, ap, sym, ◌∙◌, subst, append_assoc}
-use Rattle.std.specs.Prelude.{true, Some}
+use Rattle.std.specs.Prelude.{true, Option, None, Some}
 use Rattle.std.specs.Option.{option_map}
 use Rattle.vx_data.specs.declared.ids.ConsumerId.{ConsumerId}
 use Rattle.vx_data.specs.declared.ids.MessageId.{MessageId}
@@ -18,12 +18,12 @@ use Rattle.vx_call.specs.Consumers.{handlers}
 use Rattle.vx_call.specs.Choices.{choice}
 use Rattle.vx_call.specs.Arrivals.{addressed}
 use Rattle.vx_call.specs.Mailboxes.{accepting}
-use Rattle.vx_call.specs.Settled.{settled_made}
 use Rattle.vx_call.specs.Items.{task_kind, task_made, untaken}
 use Rattle.vx_call.proofs.Each.{Each, weaken, accepted, lasting_each}
 use Rattle.vx_call.proofs.Messages.{received_id}
 use Rattle.vx_laws.proofs.Splits.{Each-any}
 use Rattle.vx_laws.proofs.Handed.{Handed, handed_task}
+use Rattle.vx_laws.proofs.Agains.{again_of, asks_again, settled_agains}
 use Rattle.vx_laws.proofs.Made.{each_accepting, each_choice, each_made}
 
 abbrev pub id_of : Consumer → ConsumerId
@@ -61,13 +61,37 @@ origin_on history after id message origin = record {
   reaches = origin.reaches;
 }
 
+-- the entry that the message is named after, which asks an asker by it
+pub record AskedAgain (history : List Traced) (message : MessageId) : Type 0 where
+  pub before : List Traced
+  pub new : Traced
+  pub after : List Traced
+  pub parts : history ≡ before ++ new ∷ after
+  pub at : length before ≡ message.0.0
+  pub asks : asks_again new.entry.call ≡ true
+
+abbrev pub HasAgain : List Traced → Option MessageId → Type 0
+HasAgain history None = Unit {0}
+HasAgain history (Some again) = AskedAgain history again
+
+keeps_again : (history : List Traced) (new : Traced) (again : Option MessageId) → HasAgain history again → HasAgain (history ++ new ∷ []) again
+keeps_again history new None asked = tt
+keeps_again history new (Some again) asked = record {
+  before = asked.before;
+  new = asked.new;
+  after = asked.after ++ new ∷ [];
+  parts = ap (λ (h : List Traced). h ++ new ∷ []) asked.parts ∙ append_assoc asked.before (asked.new ∷ asked.after) (new ∷ []);
+  at = asked.at;
+  asks = asked.asks;
+}
+
 abbrev pub HasOrigin : List Traced → Task → Type 0
 HasOrigin history (tasks.Deliver consumer message) = Origin history consumer message.id
-HasOrigin history (tasks.Outcome request outcome) = Unit {0}
+HasOrigin history (tasks.Outcome request outcome) = HasAgain history (again_of outcome)
 
 keeps_origin : (history : List Traced) (new : Traced) (task : Task) → HasOrigin history task → HasOrigin (history ++ new ∷ []) task
 keeps_origin history new (tasks.Deliver consumer message) origin = origin_on history (new ∷ []) consumer message.id origin
-keeps_origin history new (tasks.Outcome request outcome) origin = tt
+keeps_origin history new (tasks.Outcome request outcome) origin = keeps_again history new (again_of outcome) origin
 
 new_origin : (history : List Traced) (new : Traced) (id : ConsumerId) → is_accepted new.entry.reply ≡ true → Reaches history new.entry.call id → Origin (history ++ new ∷ []) id (next_message history)
 new_origin history new id ok reaches = record { before = history; new = new; after = []; parts = refl; at = refl; accepted = ok; reaches = reaches }
@@ -91,9 +115,9 @@ made_origins history new ok =
     weaken (λ consumer. Reaches history call consumer.id) (λ consumer. Origin after consumer.id message.id) (accepting history call)
     (λ consumer reaches. subst (λ (m : MessageId). Origin after consumer.id m) (sym (received_id history call message is_message)) (new_origin history new consumer.id ok reaches))
     (accepting_reached history call))
-    (Each-any (λ s. HasOrigin after (tasks.Outcome s.request s.outcome)) (settled_made history call) (λ s. tt))
+    (settled_agains (HasAgain after) history call tt (λ asks. record { before = history; new = new; after = []; parts = refl; at = refl; asks = asks }))
 
--- each message that was not taken comes from an entry
+-- each message of a task that was not taken comes from an entry
 pub untaken_origins : (history : List Traced) → Each (HasOrigin history) (untaken history)
 untaken_origins =
     lasting_each task_kind HasOrigin (λ history new task stays origin. keeps_origin history new task origin)

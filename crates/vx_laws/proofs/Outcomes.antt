@@ -1,7 +1,7 @@
 -- An outcome is handed out once, to the context that asked.
 use Rattle.std.proofs.Common.{◌≡◌, ℕ, List, [], ◌∷◌, ◌++◌, refl, ap, sym, ◌∙◌, subst, append_assoc, arith, inl, inr}
 use Rattle.std.specs.Prelude.{true, false, not, ◌&&◌, ◌==◌, Some}
-use Rattle.std.proofs.lemmas.Bool.{cases_lt, and_parts, eq-eqb, eqb-true}
+use Rattle.std.proofs.lemmas.Bool.{cases_lt, and_parts, eq-eqb}
 use Rattle.std.proofs.lemmas.List.{append-nil}
 use Rattle.vx_data.specs.declared.ids.ContextId.{ContextId}
 use Rattle.vx_data.specs.declared.ids.MessageId.{MessageId}
@@ -10,7 +10,6 @@ use Rattle.vx_message.specs.declared.Lane.TheVariants as lanes
 use Rattle.vx_message.specs.declared.Outcome.{Outcome}
 use Rattle.vx_call.specs.declared.reply.Task.TheVariants as tasks
 use Rattle.vx_call.specs.declared.history.Traced.{Traced}
-use Rattle.vx_data.specs.Ids.{same_context}
 use Rattle.vx_call.specs.Given.{asker, context_of}
 use Rattle.vx_call.specs.Items.{Waiting, waiting}
 use Rattle.vx_call.specs.Held.{runs}
@@ -18,6 +17,7 @@ use Rattle.vx_call.specs.Next.{is_on}
 use Rattle.vx_call.specs.Machine.{IsLegal}
 use Rattle.vx_call.proofs.Each.{Each-find, by_entries}
 use Rattle.vx_call.proofs.Found.{find_passes}
+use Rattle.vx_call.proofs.Consumers.{same_context-true}
 use Rattle.vx_call.proofs.Opened.{keeps_asker}
 use Rattle.vx_call.proofs.Owners.{waiting_owned}
 use Rattle.vx_laws.specs.Entries.{TakesAt}
@@ -44,15 +44,8 @@ handed_out_once history legal = λ i j lane other_lane request outcome other one
 
 -- ## To the asker
 
-one_context : (a b : ContextId) → same_context a b ≡ true → a ≡ b
-one_context a b same =
-    let entries : a.entry.0 ≡ b.entry.0 = eqb-true a.entry.0 b.entry.0 (and_parts (a.entry.0 == b.entry.0) (a.instance == b.instance) same).0 in
-    let instances : a.instance ≡ b.instance = eqb-true a.instance b.instance (and_parts (a.entry.0 == b.entry.0) (a.instance == b.instance) same).1 in
-    let named : ℕ → ℕ → ContextId = λ entry instance. record { entry = record { 0 = entry }; instance = instance } in
-    ap (λ n. named n a.instance) entries ∙ ap (named b.entry.0) instances
-
 own_lane : (lane : Lane) (item : Waiting) → is_on lane item ≡ true → lane ≡ lanes.Own item.context
-own_lane (lanes.Own context) item on = ap (λ (c : ContextId). lanes.Own c) (one_context context item.context on)
+own_lane (lanes.Own context) item on = ap (λ (c : ContextId). lanes.Own c) (same_context-true context item.context on)
 
 -- an asker stays
 asker_on : (history after : List Traced) (request : MessageId) (context : ContextId) → asker history request ≡ Some context → asker (history ++ after) request ≡ Some context

@@ -2,9 +2,10 @@
 use Rattle.std.proofs.Common.{◌≡◌, List, [], ◌∷◌, ◌++◌, refl, ap, sym, ◌∙◌, append_assoc, arith}
 use Rattle.std.specs.Prelude.{Bool, true, false, not, ◌&&◌, ◌||◌, ◌==◌, cond, filter, Some}
 use Rattle.std.specs.List.{list_any}
-use Rattle.std.proofs.lemmas.Bool.{eq-eqb}
+use Rattle.std.proofs.lemmas.Bool.{and_parts, eq-eqb}
 use Rattle.std.proofs.lemmas.Bool.Decides.{nat_tests}
 use Rattle.std.proofs.lemmas.List.Folds.{list_any-append}
+use Rattle.std.proofs.lemmas.Map.Views.{any-filter_same}
 use Rattle.vx_data.specs.declared.ids.ContextId.{ContextId}
 use Rattle.vx_data.specs.declared.ids.PassNo.{PassNo}
 use Rattle.vx_data.specs.Ids.{same_context}
@@ -24,6 +25,7 @@ use Rattle.vx_call.specs.Next.{is_on}
 use Rattle.vx_call.specs.Machine.{IsLegal, MayFollow, answer}
 use Rattle.vx_call.proofs.Lasting.{lasting-append, and_false}
 use Rattle.vx_call.proofs.Each.{by_entries, Each-find, not_true}
+use Rattle.vx_call.proofs.Consumers.{same_context-true}
 use Rattle.vx_call.proofs.Found.{find_passes}
 use Rattle.vx_call.proofs.Owners.{waiting_owned}
 use Rattle.vx_laws.specs.Overlap.{starts, is_start, finishes, is_finish_of, HandlersNeverOverlap}
@@ -32,40 +34,9 @@ use Rattle.vx_laws.proofs.Takes.{neither_first, neither_last}
 
 -- ## Booleans and lists
 
-and_first : (a b : Bool) → (a && b) ≡ true → a ≡ true
-and_first true b h = refl
-and_first false b h = h
-
-and_second : (a b : Bool) → (a && b) ≡ true → b ≡ true
-and_second true b h = h
-and_second false b h = absurd cc
-
 or_second : (a : Bool) → (a || true) ≡ true
 or_second true = refl
 or_second false = refl
-
-same_context-true : (a b : ContextId) → same_context a b ≡ true → a ≡ b
-same_context-true a b h =
-    let entries = and_first (a.entry.0 == b.entry.0) (a.instance == b.instance) h in
-    let instances = and_second (a.entry.0 == b.entry.0) (a.instance == b.instance) h in
-    let entry : a.entry.0 ≡ b.entry.0 = grind (arith, nat_tests) in
-    let instance : a.instance ≡ b.instance = grind (arith, nat_tests) in
-    ap (λ n. record { entry = record { 0 = n }; instance = a.instance }) entry ∙ ap (λ n. record { entry = b.entry; instance = n }) instance
-
--- what passes a test is kept by another that all such pass
-any_kept : {A : Type 0} (test kept : A → Bool) → ((x : A) → test x ≡ true → kept x ≡ true) → (xs : List A) → list_any test xs ≡ true → list_any test (filter kept xs) ≡ true
-any_kept test kept keeps [] h = h
-any_kept test kept keeps (x ∷ xs) h =
-    elim (test x) as (λ b. test x ≡ b → (b || list_any test xs) ≡ true → list_any test (cond (kept x) (x ∷ filter kept xs) (filter kept xs)) ≡ true) [
-      | true ↦ λ passes here.
-          (ap (λ b. list_any test (cond b (x ∷ filter kept xs) (filter kept xs))) (keeps x passes) ∙ ap (λ b. b || list_any test (filter kept xs)) passes)
-      | false ↦ λ fails there.
-          (let later = any_kept test kept keeps xs there in
-          elim (kept x) as (λ b. list_any test (cond b (x ∷ filter kept xs) (filter kept xs)) ≡ true) [
-            | true ↦ ap (λ b. b || list_any test (filter kept xs)) fails ∙ later
-            | false ↦ later
-          ])
-    ] refl h
 
 any_weaker : {A : Type 0} (test other : A → Bool) → ((x : A) → test x ≡ true → other x ≡ true) → (xs : List A) → list_any test xs ≡ true → list_any other xs ≡ true
 any_weaker test other weaker [] h = h
@@ -123,9 +94,9 @@ runs_on : (context : ContextId) (pass : PassNo) (now : List Traced) (new : Trace
 runs_on context pass now new none is_running =
     let test = is_run context pass in
     let kept = λ (h : Held). not (ended_by held_kind now new h) in
-    let still = any_kept test kept
-    (λ h passes. ap not (not_ended (is_accepted new.entry.reply) new.entry.call pass new.entry.pass h (and_second (is_of_context context h.context) (h.pass.0 == pass.0) passes) none))
-    (held now) is_running in
+    let still = any-filter_same test kept true
+    (λ h passes. ap not (not_ended (is_accepted new.entry.reply) new.entry.call pass new.entry.pass h (and_parts (is_of_context context h.context) (h.pass.0 == pass.0) passes).1 none))
+    (held now) ∙ is_running in
     ap (list_any test) (lasting-append held_kind now new) ∙ list_any-append test (filter kept (held now)) (made_by held_kind now new) ∙ ap (λ b. b || list_any test (made_by held_kind now new)) still
 
 -- ## Another begins
@@ -138,7 +109,7 @@ not_running context now new may start =
     let found = waited now new.entry.pass start.lane start.task (sym start.replied ∙ may.answered ∙ ap (answer now new.entry.pass) start.called) in
     let item : Waiting = found.0 in
     let owned : context_of now item.task ≡ Some item.context = Each-find Owned test (waiting now) item (waiting_owned now) found.1 in
-    let free = and_second (is_on start.lane item) (not (runs now item.context)) (find_passes test (waiting now) item found.1) in
+    let free = (and_parts (is_on start.lane item) (not (runs now item.context)) (find_passes test (waiting now) item found.1)).1 in
     let same : same_context context item.context ≡ true = sym (ap (is_of_context context) (sym (ap (context_of now) found.2) ∙ owned)) ∙ start.its in
     ap (runs now) (same_context-true context item.context same) ∙ not_true (runs now item.context) free
 
@@ -166,7 +137,7 @@ module _ (history : List Traced) (legal : IsLegal history) (context : ContextId)
         | false ↦ λ none.
             (let may = legal now second after (parts ∙ sym (append_assoc before (first ∷ between) (second ∷ after))) in
             let running : runs now context ≡ true =
-            any_weaker (is_run context pass) (λ h. is_of_context context h.context) (λ h its. and_first (is_of_context context h.context) (h.pass.0 == pass.0) its) (held now) (stage between none) in
+            any_weaker (is_run context pass) (λ h. is_of_context context h.context) (λ h its. (and_parts (is_of_context context h.context) (h.pass.0 == pass.0) its).0) (held now) (stage between none) in
             sym (not_running context now second may (started context now second.entry.call second.entry.reply again)) ∙ running)
       ] refl
 

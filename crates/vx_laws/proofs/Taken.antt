@@ -1,7 +1,7 @@
 -- Takes by one more entry, and that what they hand out is given.
 use Rattle.std.proofs.Common.{◌≡◌, ℕ, zero, suc, List, [], ◌∷◌, ◌++◌, refl, ap, ◌∙◌, inl, inr}
 use Rattle.std.specs.Prelude.{◌⊎◌, Bool, true, false, cond, find, slice_get, None, Some}
-use Rattle.std.proofs.lemmas.Bool.{eq-eqb}
+use Rattle.std.proofs.lemmas.Bool.{eq-eqb, eqb-true}
 use Rattle.vx_data.specs.declared.ids.ConsumerId.{ConsumerId}
 use Rattle.vx_data.specs.declared.ids.MessageId.{MessageId}
 use Rattle.vx_message.specs.declared.Given.{Given}
@@ -41,16 +41,21 @@ takes_push history new i lane task takes =
 
 -- ## What is handed out is given
 
+pub same_message-true : (a b : MessageId) → same_message a b ≡ true → a ≡ b
+same_message-true a b same =
+    let by_number : ℕ → MessageId = λ n. record { 0 = record { 0 = n } } in
+    ap by_number (eqb-true a.0.0 b.0.0 same)
+
 found_last : {X : Type 0} (p : X → Bool) (xs : List X) (y : X) → p y ≡ true → (x : X) × (find p (xs ++ y ∷ []) ≡ Some x)
 found_last p [] y passes = (y, ap (λ b. cond b (Some y) None) passes)
 found_last {X} p (x ∷ xs) y passes =
     let rest = found_last p xs y passes in
     elim (p x) as (λ b. (z : X) × (cond b (Some x) (find p (xs ++ y ∷ [])) ≡ Some z)) [ true ↦ (x, refl) | false ↦ rest ]
 
-abbrev is_given_as : MessageId → Given → Bool
+abbrev pub is_given_as : MessageId → Given → Bool
 is_given_as id g = same_message id g.id
 
-given-append : (history : List Traced) (new : Traced) → lasting given_kind (history ++ new ∷ []) ≡ lasting given_kind history ++ made_by given_kind history new
+pub given-append : (history : List Traced) (new : Traced) → lasting given_kind (history ++ new ∷ []) ≡ lasting given_kind history ++ made_by given_kind history new
 given-append history new = lasting_more given_kind history new (λ g. and_false (is_accepted new.entry.reply))
 
 abbrev pub IsGiven : List Traced → MessageId → Type 0

@@ -1,10 +1,8 @@
 -- Nobody gets the message of a request that failed with NO_HANDLERS.
-use Rattle.std.proofs.Common.{◌≡◌, ℕ, ◌<◌, List, [], ◌∷◌, ◌++◌, length, refl, ap, ◌∙◌}
-use Rattle.std.specs.Prelude.{ℤ, ◌≢◌, true, None, Some}
-use Rattle.std.proofs.lemmas.Bool.{eqb-true}
+use Rattle.std.proofs.Common.{◌≡◌, ℕ, ◌<◌, List, [], ◌∷◌, ◌++◌, length, refl, ap, sym, ◌∙◌}
+use Rattle.std.specs.Prelude.{ℤ, ◌≢◌, true, false, is_some, None, Some}
 use Rattle.vx_data.specs.declared.ids.ConsumerId.{ConsumerId}
 use Rattle.vx_data.specs.declared.ids.ContextId.{ContextId}
-use Rattle.vx_data.specs.declared.ids.MessageId.{MessageId}
 use Rattle.vx_data.specs.Tree.{Tree}
 use Rattle.vx_message.specs.declared.Failure.{Failure}
 use Rattle.vx_message.specs.declared.FailureKind.{FailureKind}
@@ -19,6 +17,7 @@ use Rattle.vx_call.specs.declared.history.Traced.{Traced}
 use Rattle.vx_call.specs.History.{is_accepted, lasting}
 use Rattle.vx_call.specs.Names.{next_message}
 use Rattle.vx_call.specs.Mailboxes.{accepting}
+use Rattle.vx_call.specs.Given.{is_given}
 use Rattle.vx_call.specs.Requests.{Open, settles, unsettled, settled_by, by_due}
 use Rattle.vx_call.specs.Settled.{Settled, failed, timeout, no_handlers, settlements, replied, settled_unheard, settled_made, settled_kind}
 use Rattle.vx_call.specs.Machine.{IsLegal}
@@ -26,8 +25,9 @@ use Rattle.vx_call.proofs.Each.{Each, Each-filter, Each-find, Each-both, accepte
 use Rattle.vx_call.proofs.Found.{find_passes}
 use Rattle.vx_call.proofs.Opened.{open_key, unsettled_earlier}
 use Rattle.vx_call.proofs.Settlings.{settlement, is_settled_as}
-use Rattle.vx_laws.specs.Outcomes.{DeliversNoneUnheard}
+use Rattle.vx_laws.specs.Outcomes.{GivesNoneUnheard, DeliversNoneUnheard}
 use Rattle.vx_laws.proofs.Splits.{legal_front, Each-any}
+use Rattle.vx_laws.proofs.Taken.{same_message-true, taken_given}
 use Rattle.vx_laws.proofs.Nobody.{NobodyGets, nobody_on, nobody_reached}
 use Rattle.vx_laws.proofs.Lost.{IsAskedOf, open_asked, lost, nobody_left}
 
@@ -82,10 +82,14 @@ all_unheard =
     (λ history new s stays before legal none. nobody_on history new s.request legal (before (legal_front history (new ∷ []) legal) none))
     (λ history new. accepted (IsUnheardOf (history ++ new ∷ [])) (is_accepted new.entry.reply) (settled_made history new.entry.call) (λ ok. new_unheard history new new.entry.call ok refl))
 
-pub is_unheard : (history : List Traced) → IsLegal history → DeliversNoneUnheard history
-is_unheard history legal = λ request end failure found is_failure is_kind i lane consumer message takes.
+pub is_unheard : (history : List Traced) → IsLegal history → GivesNoneUnheard history
+is_unheard history legal = λ request end failure found is_failure is_kind.
     (let nobody = Each-find (IsUnheardOf history) (is_settled_as request) (lasting settled_kind history) end (all_unheard history) found legal (failure, is_failure, is_kind) in
-    let named : request.0.0 ≡ end.request.0.0 = eqb-true request.0.0 end.request.0.0 (find_passes (is_settled_as request) (lasting settled_kind history) end found) in
-    let by_number : ℕ → MessageId = λ n. record { 0 = record { 0 = n } } in
-    let same : request ≡ end.request = ap by_number named in
-    λ e. nobody.taken i lane consumer message takes (e ∙ same))
+    ap (is_given history) (same_message-true request end.request (find_passes (is_settled_as request) (lasting settled_kind history) end found)) ∙ nobody.untaken)
+
+pub is_undelivered : (history : List Traced) → IsLegal history → DeliversNoneUnheard history
+is_undelivered history legal = λ request end failure found is_failure is_kind i lane consumer message takes same.
+    (let given = taken_given history i lane consumer message takes in
+    let yes : is_given history request ≡ true = ap (is_given history) (sym same) ∙ ap is_some given.1 in
+    let no : is_given history request ≡ false = is_unheard history legal request end failure found is_failure is_kind in
+    absurd cc)

@@ -15,7 +15,8 @@ pub fn messages_are_delivered_once()
     ensures { (history : List Traced) → IsLegal history → DeliversOnce history }
 {}
 
-/// A request has one outcome, which its asker takes once. Nobody gets the message of one that failed with NO_HANDLERS.
+/// A request has one outcome, which its asker takes once. The message of one that failed with NO_HANDLERS is given to
+/// nobody, before or after.
 pub fn requests_end_once()
     ensures { (history : List Traced) → IsLegal history → EndsRequestsOnce history }
 {}
@@ -27,7 +28,7 @@ pub fn handlers_take_turns()
 {}
 
 /// Of two messages that one consumer accepted, the one that was sent later is taken only after the other was: through
-/// Pause, Resume and Fetch.
+/// Pause, Resume and Fetch. So a consumer takes the messages of each one sender in the order of sending.
 pub fn messages_are_taken_in_order()
     ensures { (history : List Traced) → IsLegal history → TakesInOrder history }
 {}

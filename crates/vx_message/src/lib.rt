@@ -1,18 +1,28 @@
 //! What travels on the event bus, and the plain data that several stores name.
 #![tactic(auto)]
 
+mod frame;
 mod rules;
 
+pub use frame::{FrameMessage, InFrame, OutFrame, Permits};
 pub use rules::{Codec, CodecForm, Condition, MAX_ADDED_BYTES, MAX_RULES, Rule, Side, Verdict};
 use std::alloc::Global;
 use vx_data::{Body, ConsumerId, ContextId, EntryNo, Headers, MessageId, PassNo, Text};
 
 /// What goes with a message or a reply. (Vert.x core API, `DeliveryOptions`.)
-#[derive(Debug, Drop)]
 pub struct Options {
     pub headers: Headers,
     /// The name of the codec that the body goes through. Without one the body is copied as it is.
     pub codec: Option<Text>,
+}
+
+impl Drop for Options {
+    fn drop(self) {
+        let Options {
+            headers: _,
+            codec: _,
+        } = self;
+    }
 }
 
 impl Options {
@@ -31,7 +41,6 @@ impl Options {
 }
 
 /// A message, as a consumer gets it.
-#[derive(Debug, Drop)]
 pub struct Message {
     pub id: MessageId,
     pub address: Text,
@@ -41,6 +50,45 @@ pub struct Message {
     pub request: bool,
     /// Whether it was published, to all consumers at its address.
     pub publish: bool,
+}
+
+impl Message {
+    ghost use Rattle.std.specs.Prelude.{◌≡◌};
+
+    /// The message with these headers in place of its own.
+    pub fn with_headers(self, headers: Headers) -> Message
+        ensures { result ≡ record self { headers = headers } }
+    {
+        let Message {
+            id,
+            address,
+            headers: _,
+            body,
+            request,
+            publish,
+        } = self;
+        Message {
+            id,
+            address,
+            headers,
+            body,
+            request,
+            publish,
+        }
+    }
+}
+
+impl Drop for Message {
+    fn drop(self) {
+        let Message {
+            id: _,
+            address: _,
+            headers: _,
+            body: _,
+            request: _,
+            publish: _,
+        } = self;
+    }
 }
 
 /// How a request failed. (Vert.x core API, `ReplyFailure`.)
@@ -55,7 +103,7 @@ pub enum FailureKind {
 }
 
 /// The failure of a request. (Vert.x core API, `ReplyException`.)
-#[derive(Debug, Drop)]
+#[derive(Drop)]
 pub struct Failure {
     pub kind: FailureKind,
     pub code: i32,
@@ -63,7 +111,6 @@ pub struct Failure {
 }
 
 /// How a request ended. (Vert.x core manual, "Acknowledging messages / sending replies".)
-#[derive(Debug, Drop)]
 pub enum Outcome {
     /// A reply. Where `again` names a message, the asker may reply to it in its turn.
     Ok {
@@ -74,6 +121,19 @@ pub enum Outcome {
     Failed(Failure),
 }
 
+impl Drop for Outcome {
+    fn drop(self) {
+        match self {
+            Outcome::Ok {
+                headers: _,
+                body: _,
+                again: _,
+            } => {}
+            Outcome::Failed(_) => {}
+        }
+    }
+}
+
 /// Whom a thing belongs to.
 #[derive(Clone, Copy, Debug, PartialEq, Eq)]
 pub enum Owner {
@@ -82,21 +142,21 @@ pub enum Owner {
 }
 
 /// A context that a pass made. Its tasks are taken by that pass alone.
-#[derive(Clone, Copy, Debug, PartialEq, Eq)]
+#[derive(Clone, Copy, PartialEq, Eq)]
 pub struct OutsideContext {
     pub id: ContextId,
     pub maker: PassNo,
 }
 
 /// Where a task is taken from.
-#[derive(Clone, Copy, Debug, PartialEq, Eq)]
+#[derive(Clone, Copy, PartialEq, Eq)]
 pub enum Lane {
     /// The lane of an outside context, from which the context's maker takes.
     Own(ContextId),
 }
 
 /// What kind of task an item is, by ids alone: who made the item keeps the rest of its task.
-#[derive(Clone, Copy, Debug, PartialEq, Eq)]
+#[derive(Clone, Copy, PartialEq, Eq)]
 pub enum ItemKind {
     /// A message for a consumer.
     Deliver(ConsumerId, MessageId),
@@ -105,7 +165,7 @@ pub enum ItemKind {
 }
 
 /// A task that waits for a context: the entry that made it ready, and its place among the items of that entry.
-#[derive(Clone, Copy, Debug, PartialEq, Eq)]
+#[derive(Clone, Copy, PartialEq, Eq)]
 pub struct Item {
     pub entry: EntryNo,
     pub place: u64,
@@ -114,7 +174,7 @@ pub struct Item {
 }
 
 /// A task that a pass took and did not finish yet: the entry of the Take, and the context whose handler runs.
-#[derive(Clone, Copy, Debug, PartialEq, Eq)]
+#[derive(Clone, Copy, PartialEq, Eq)]
 pub struct Held {
     pub pass: PassNo,
     pub at: EntryNo,
@@ -122,7 +182,7 @@ pub struct Held {
 }
 
 /// A message that a Take gave out: the context whose handler got it, and whether its sender waits for a reply.
-#[derive(Clone, Copy, Debug, PartialEq, Eq)]
+#[derive(Clone, Copy, PartialEq, Eq)]
 pub struct Given {
     pub id: MessageId,
     pub receiver: Option<ContextId>,

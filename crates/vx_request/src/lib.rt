@@ -5,8 +5,6 @@
 mod first;
 mod given;
 mod requests;
-#[cfg(test)]
-mod tests;
 
 pub use given::GivenOut;
 pub use requests::{OpenRequest, Requests, is_lost};

@@ -15,7 +15,7 @@ use vx_data::{ConsumerId, EntryNo, MessageId, NoMemory};
 use vx_message::Owner;
 
 /// A request that waits for its outcome: who asks, and the consumer that the request reached, if it reached one.
-#[derive(Clone, Copy, Debug, PartialEq, Eq)]
+#[derive(Clone, Copy)]
 pub struct OpenRequest {
     pub id: MessageId,
     pub asker: Owner,

@@ -46,13 +46,13 @@ impl Codecs {
     }
 
     /// Adds a codec whose name is free, behind the others. It takes no memory.
-    pub fn add(&mut self, codec: Codec)
+    pub fn add(&mut self, id: CodecId, name: Text, form: CodecForm)
         requires room { 0 < self.old.room }
-        requires free { find (is_codec codec.name) self.old.codecs ≡ None }
-        ensures added { self.new.codecs ≡ self.old.codecs ++ codec ∷ [] }
+        requires free { find (is_codec name) self.old.codecs ≡ None }
+        ensures added { self.new.codecs ≡ self.old.codecs ++ record { id = id; name = name; form = form } ∷ [] }
         ensures room { self.old.room ≤ self.new.room + 1 }
     {
-        self.rows.push(codec).unwrap();
+        self.rows.push(Codec { id, name, form }).unwrap();
     }
 
     /// Removes the codec of a name, and says whether it was there.

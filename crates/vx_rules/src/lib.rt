@@ -5,8 +5,6 @@
 mod codecs;
 mod forms;
 mod rules;
-#[cfg(test)]
-mod tests;
 
 pub use codecs::Codecs;
 pub use forms::transform;

@@ -2,16 +2,16 @@ ghost use Rattle.std.specs.Prelude.{◌≡◌, ◌+◌, ◌*◌, ◌<◌, ◌≤
 ghost use Rattle.std.specs.List.{list_any};
 ghost use Rattle.std.specs.Str.{bytes_eq};
 ghost use Rattle.vx_data.specs.HeaderLists.{header_bytes, too_many};
-ghost use Rattle.vx_message.specs.Rules.{concerns, is_rule, past, rules_of, through, verdict_bytes};
-ghost use Rattle.vx_rules.specs.Stores.{bearing, passed, AreWithinLimits, GrowsWithinLimits};
+ghost use Rattle.vx_message.specs.Rules.{concerns, is_rule, past, rules_of, through};
+ghost use Rattle.vx_rules.specs.Stores.{added_by, additions, bearing, passed, GrowsBy};
 
 use std::alloc::Global;
 use std::marker::Model;
 use vx_data::{HeaderFault, Headers, NoMemory, RuleId, Text};
-use vx_message::{Condition, MAX_ADDED_BYTES, MAX_RULES, Message, Rule, Side, Verdict};
+use vx_message::{Condition, Message, Rule, Side, Verdict};
 
 /// What became of a message at the rules.
-#[derive(Debug, Drop)]
+#[derive(Drop)]
 pub enum Through {
     /// A rule stopped it.
     Stopped,
@@ -19,8 +19,8 @@ pub enum Through {
     Passed(Message),
 }
 
-/// The rules that are there, in the order of adding: of each side at most [`MAX_RULES`], none of which adds more than
-/// [`MAX_ADDED_BYTES`]. (Vert.x core API, `EventBus.addInboundInterceptor` and `addOutboundInterceptor`.)
+/// The rules that are there, in the order of adding. How many there may be, and how much one may add, the caller decides.
+/// (Vert.x core API, `EventBus.addInboundInterceptor` and `addOutboundInterceptor`.)
 #[derive(Drop)]
 pub struct Rules {
     rows: Vec<Rule>,
@@ -28,13 +28,11 @@ pub struct Rules {
 
 impl Model for Rules {
     ghost use Rattle.std.specs.Prelude.{◌-◌, vec_len, vec_capacity};
-    ghost use Rattle.vx_rules.specs.Stores.{RuleStore, AreWithinLimits};
+    ghost use Rattle.vx_rules.specs.Stores.{RuleStore};
 
     ghost Value = { RuleStore };
 
     ghost view = { λ store. record { rules = store.rows.items; room = vec_capacity store.rows - vec_len store.rows } };
-
-    ghost invariant = { λ store. AreWithinLimits store.rows.items };
 }
 
 impl Rules {
@@ -58,13 +56,17 @@ impl Rules {
     }
 
     /// Adds a rule behind the others. It takes no memory.
-    pub fn add(&mut self, rule: Rule)
-        requires room { 0 < self.old.room }
-        requires few { length (rules_of rule.side self.old.rules) < MAX_RULES }
-        requires small { verdict_bytes rule.verdict ≤ MAX_ADDED_BYTES }
-        ensures added { self.new.rules ≡ self.old.rules ++ rule ∷ [] }
+    pub fn add(&mut self, id: RuleId, side: Side, condition: Condition, verdict: Verdict)
+        requires { 0 < self.old.room }
+        ensures added { self.new.rules ≡ self.old.rules ++ record { id = id; side = side; condition = condition; verdict = verdict } ∷ [] }
         ensures room { self.old.room ≤ self.new.room + 1 }
     {
+        let rule = Rule {
+            id,
+            side,
+            condition,
+            verdict,
+        };
         self.rows.push(rule).unwrap();
     }
 
@@ -86,29 +88,29 @@ impl Rules {
         self.rows.iter().any(|rule| id == rule.id)
     }
 
-    /// How many rules of a side are there, at most [`MAX_RULES`].
+    /// How many rules of a side are there.
     pub fn count(&self, side: Side) -> usize
         ensures { result ≡ length (rules_of side self.now.rules) }
     {
         self.rows.iter().filter(|rule| side == rule.side).count()
     }
 
-    /// Tries the rules of a side on a message, in the order of adding, each on the message as those before it left it.
-    /// Where memory runs out the message comes back as it was.
+    /// Tries the rules of a side on a message, in the order of adding, each on the message as those before it left it. The
+    /// message's headers have room for all that the side's rules add: together at most 1,152 pairs, and 196,608 bytes of
+    /// names and values. Where memory runs out the message comes back as it was.
     pub fn pass_through(
         &self,
         alloc: Global,
         side: Side,
         message: Message,
     ) -> Result<Through, (Message, NoMemory)>
-        requires pairs { length message.headers + MAX_RULES ≤ 1152 }
-        requires bytes { header_bytes message.headers + MAX_RULES * MAX_ADDED_BYTES ≤ 196608 }
+        requires { too_many (message.headers ++ additions (rules_of side self.now.rules)) ≡ false }
         ensures through { IfOk result (λ end. passed end ≡ through (rules_of side self.now.rules) message) }
-        ensures grown { IfOk result (GrowsWithinLimits message) }
+        ensures grown { IfOk result (GrowsBy (additions (rules_of side self.now.rules)) message) }
         ensures back { IfErr result (λ back. back.0 ≡ message) }
     {
         match headers_past(alloc, &self.rows, side, &message) {
-            Ok(Some(headers)) => Ok(Through::Passed(Message { headers, ..message })),
+            Ok(Some(headers)) => Ok(Through::Passed(message.with_headers(headers))),
             Ok(None) => Ok(Through::Stopped),
             Err(fault) => Err((message, fault)),
         }
@@ -122,12 +124,10 @@ fn headers_past(
     side: Side,
     message: &Message,
 ) -> Result<Option<Headers>, NoMemory>
-    requires limits { AreWithinLimits rules.now }
-    requires pairs { length message.now.headers + MAX_RULES ≤ 1152 }
-    requires bytes { header_bytes message.now.headers + MAX_RULES * MAX_ADDED_BYTES ≤ 196608 }
+    requires { too_many (message.now.headers ++ additions (rules_of side rules.now)) ≡ false }
     ensures through { IfOk result (λ headers. option_map (bearing message.now) headers ≡ through (rules_of side rules.now) message.now) }
-    ensures pairs { IfOk result (λ headers. IfSome headers (λ grown. length grown ≤ length message.now.headers + MAX_RULES)) }
-    ensures bytes { IfOk result (λ headers. IfSome headers (λ grown. header_bytes grown ≤ header_bytes message.now.headers + MAX_RULES * MAX_ADDED_BYTES)) }
+    ensures pairs { IfOk result (λ headers. IfSome headers (λ grown. length grown ≤ length message.now.headers + length (additions (rules_of side rules.now)))) }
+    ensures bytes { IfOk result (λ headers. IfSome headers (λ grown. header_bytes grown ≤ header_bytes message.now.headers + header_bytes (additions (rules_of side rules.now)))) }
 {
     let mut headers = message.headers.copy(alloc)?;
     for rule in rules {
@@ -145,11 +145,10 @@ fn goes_on(
     message: &Message,
     headers: &mut Headers,
 ) -> Result<bool, NoMemory>
-    requires pairs { length headers.old < 1152 }
-    requires bytes { header_bytes headers.old + verdict_bytes rule.now.verdict ≤ 196608 }
+    requires { too_many (headers.old ++ added_by rule.now.verdict) ≡ false }
     ensures past { IfOk result (λ goes_on. past rule.now (bearing message.now headers.old) ≡ (if goes_on then Some (bearing message.now headers.new) else None)) }
-    ensures pairs { length headers.new ≤ length headers.old + 1 }
-    ensures bytes { header_bytes headers.new ≤ header_bytes headers.old + verdict_bytes rule.now.verdict }
+    ensures pairs { length headers.new ≤ length headers.old + length (added_by rule.now.verdict) }
+    ensures bytes { header_bytes headers.new ≤ header_bytes headers.old + header_bytes (added_by rule.now.verdict) }
 {
     if !concerns(&rule.condition, message, headers) {
         return Ok(true);

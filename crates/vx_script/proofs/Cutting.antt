@@ -7,10 +7,11 @@ use Rattle.std.proofs.lemmas.List.{nil_from_length, append-nil, take_rest, drop-
 use Rattle.std.proofs.Math.Seq.{take-length}
 use Rattle.std.proofs.lemmas.List.Sums.{fails_before_first, prefix_len-le-length}
 use Rattle.std.proofs.lemmas.List.Splits.{slice_split_first, slice_split_none}
-use Rattle.vx_script.specs.declared.command.Command.{Command}
-use Rattle.vx_script.specs.declared.fault.LineFault.{LineFault}
-use Rattle.vx_script.specs.declared.fault.LineFault.TheVariants as faults
-use Rattle.vx_script.specs.Reading.{said_at, Fails}
+use Rattle.vx_line.specs.declared.command.Command.{Command}
+use Rattle.vx_words.specs.declared.fault.LineFault.{LineFault}
+use Rattle.vx_words.specs.declared.fault.LineFault.TheVariants as faults
+use Rattle.vx_line.specs.Reading.{said_at}
+use Rattle.vx_words.specs.Reading.{Fails}
 use Rattle.vx_script.specs.Lines.{Bad, passes_after, with_front, commands_from, commands_of, Adds, numbered, ScriptFails}
 
 abbrev pub newline : ℕ → Bool

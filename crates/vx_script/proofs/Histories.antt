@@ -13,8 +13,8 @@ use Rattle.vx_call.specs.Machine.{answer}
 use Rattle.vx_call.specs.Passes.{passes}
 use Rattle.vx_call.specs.Runs.{played}
 use Rattle.vx_io.specs.Writing.{Begins, AppendsFront}
-use Rattle.vx_script.specs.Replies.{reply_line, text_from, text}
-use Rattle.vx_script.specs.declared.command.Command.{Command}
+use Rattle.vx_reply_text.specs.Replies.{reply_line, text_from, text}
+use Rattle.vx_line.specs.declared.command.Command.{Command}
 use Rattle.vx_script.specs.Lines.{AreThere}
 use Rattle.vx_script.specs.Playing.{history_from, history_of}
 use Rattle.vx_script.proofs.Counts.{not_spent, passes_more, passes_none}

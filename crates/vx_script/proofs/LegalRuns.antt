@@ -10,10 +10,10 @@ use Rattle.vx_call.specs.History.{plain_entry}
 use Rattle.vx_call.specs.Passes.{passes}
 use Rattle.vx_call.specs.Machine.{answer, IsLegal}
 use Rattle.vx_call.proofs.Legal.{legal_none, legal_more}
-use Rattle.vx_script.specs.declared.command.Command.{Command}
+use Rattle.vx_line.specs.declared.command.Command.{Command}
 use Rattle.vx_script.specs.declared.limit.TheConstants.{LIMIT}
-use Rattle.vx_script.specs.Reading.{said_at}
-use Rattle.vx_script.specs.Reasons.{reason}
+use Rattle.vx_line.specs.Reading.{said_at}
+use Rattle.vx_line.specs.Reasons.{reason}
 use Rattle.vx_script.specs.Lines.{Bad, passes_after, with_front, with_line, commands_from, commands_of, AreThere}
 use Rattle.vx_script.specs.Playing.{history_from, history_of}
 use Rattle.vx_script.proofs.Counts.{passes_more, passes_none}

@@ -1,12 +1,3 @@
-pub mod Texts
-pub mod Digits
-pub mod Words
-pub mod Tokens
-pub mod Endings
-pub mod Choices
-pub mod Runs
-pub mod Values
-pub mod Forms
 pub mod Scripts
 pub mod Cutting
 pub mod Counts

@@ -1,11 +1,11 @@
 -- All lines of a script, in the words of the grammar.
 use Rattle.std.proofs.Common.{◌≡◌, ℕ, ◌+◌, List, [], ◌∷◌, ◌++◌, refl, sym, ap, Option, Some, None, Result, Ok, Err, inl, inr}
 use Rattle.std.specs.Option.{option_to_list}
-use Rattle.vx_script.specs.declared.command.Command.{Command}
-use Rattle.vx_script.specs.Reading.{said_at}
-use Rattle.vx_script.specs.Reasons.{reason}
+use Rattle.vx_line.specs.declared.command.Command.{Command}
+use Rattle.vx_line.specs.Reading.{said_at}
+use Rattle.vx_line.specs.Reasons.{reason}
 use Rattle.vx_script.specs.Lines.{Bad, passes_after, with_front, with_line, commands_from, Make, IsBad, IsFirstBad}
-use Rattle.vx_script.proofs.Forms.{line_take, line_again}
+use Rattle.vx_line.proofs.Forms.{line_take, line_again}
 
 front_ok : (front : List Command) (r : Result (List Command) Bad) (commands : List Command) → with_front front r ≡ Ok commands → (rest : List Command) × (r ≡ Ok rest) × (commands ≡ front ++ rest)
 front_ok front (Ok rest) commands h = (rest, refl, cc)

@@ -2,7 +2,7 @@
 use Rattle.std.proofs.Common.{◌≡◌, ℕ, ◌≤◌, List, ◌++◌, length, length-append, Option, Some, None, Result, Ok, Err, refl, ◌∙◌, ap, arith}
 use Rattle.std.specs.Io.KnownBytes.{Consumes, IsAtEnd}
 use Rattle.std.proofs.lemmas.List.{append-nil}
-use Rattle.vx_script.specs.declared.command.Command.{Command}
+use Rattle.vx_line.specs.declared.command.Command.{Command}
 use Rattle.vx_script.specs.declared.status.Status.{Status}
 use Rattle.vx_script.specs.declared.status.Status.TheVariants.{Done, Usage, BadLine, ReadFault, WriteFault, TooLong, NoMemory}
 use Rattle.vx_script.specs.declared.limit.TheConstants.{LIMIT}

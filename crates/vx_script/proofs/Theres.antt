@@ -8,8 +8,9 @@ use Rattle.std.proofs.lemmas.Bool.Decides.{nat_tests}
 use Rattle.vx_data.specs.declared.ids.PassNo.{PassNo}
 use Rattle.vx_call.specs.declared.call.Call.{Call}
 use Rattle.vx_call.specs.declared.call.Call.TheVariants as calls
-use Rattle.vx_script.specs.declared.command.Command.{Command}
-use Rattle.vx_script.specs.Grammar.{Form, forms, is_number, NamesPass, IsOfOne, IsLine}
+use Rattle.vx_line.specs.declared.command.Command.{Command}
+use Rattle.vx_line.specs.Grammar.{Form, forms, IsOfOne, IsLine}
+use Rattle.vx_words.specs.Grammar.{is_number, NamesPass}
 use Rattle.vx_script.specs.Lines.{passes_with, passes_after, commands_of, Make, AreThere}
 use Rattle.vx_script.proofs.Scripts.{commands_take}
 

@@ -4,15 +4,15 @@ use Rattle.std.specs.Option.{option_to_list}
 use Rattle.std.specs.Str.Lines as text
 use Rattle.vx_call.specs.declared.call.Call.{Call}
 use Rattle.vx_call.specs.declared.call.Call.TheVariants as calls
-use Rattle.vx_script.specs.declared.command.Command.{Command}
-use Rattle.vx_script.specs.declared.fault.LineWhy.{LineWhy}
-use Rattle.vx_script.specs.declared.fault.LineFault.{LineFault}
-use Rattle.vx_script.specs.declared.fault.LineFault.TheVariants as faults
+use Rattle.vx_line.specs.declared.command.Command.{Command}
+use Rattle.vx_line.specs.declared.fault.LineWhy.{LineWhy}
+use Rattle.vx_words.specs.declared.fault.LineFault.{LineFault}
+use Rattle.vx_words.specs.declared.fault.LineFault.TheVariants as faults
 use Rattle.vx_script.specs.declared.fault.ScriptFault.{ScriptFault}
 use Rattle.vx_script.specs.declared.fault.ScriptFault.TheVariants as scripts
-use Rattle.vx_script.specs.Grammar.{IsLine}
-use Rattle.vx_script.specs.Reading.{said_at}
-use Rattle.vx_script.specs.Reasons.{reason}
+use Rattle.vx_line.specs.Grammar.{IsLine}
+use Rattle.vx_line.specs.Reading.{said_at}
+use Rattle.vx_line.specs.Reasons.{reason}
 
 -- the number of a line, from 1, and why it is in no form
 abbrev pub Bad : Type 0

@@ -3,9 +3,9 @@ use Rattle.std.specs.Prelude.{◌≡◌, ℕ, List, Option, Ok, Err, ◌⊎◌}
 use Rattle.std.specs.Io.KnownBytes.{Consumes, Keeps, Appends}
 use Rattle.vx_io.specs.Reading.{ReadsAll, ReadsSome, ReadsTooMany}
 use Rattle.vx_io.specs.Writing.{AppendsFront}
-use Rattle.vx_script.specs.declared.command.Command.{Command}
+use Rattle.vx_line.specs.declared.command.Command.{Command}
 use Rattle.vx_script.specs.Lines.{commands_of}
-use Rattle.vx_script.specs.Replies.{text}
+use Rattle.vx_reply_text.specs.Replies.{text}
 use Rattle.vx_script.specs.Playing.{history_of}
 use Rattle.vx_script.specs.declared.status.Status.{Status}
 use Rattle.vx_script.specs.declared.status.Status.TheVariants.{Done, Usage, BadLine, ReadFault, WriteFault, TooLong, NoMemory}

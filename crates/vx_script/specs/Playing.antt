@@ -2,7 +2,7 @@
 use Rattle.std.specs.Prelude.{List, [], ◌∷◌}
 use Rattle.vx_call.specs.declared.history.Traced.{Traced}
 use Rattle.vx_call.specs.Runs.{played}
-use Rattle.vx_script.specs.declared.command.Command.{Command}
+use Rattle.vx_line.specs.declared.command.Command.{Command}
 
 -- the history after calls of passes, each with the machine's reply
 abbrev pub history_from : List Traced → List Command → List Traced

@@ -1,8 +1,8 @@
 -- The statuses of the process, and the lines that say what went wrong.
 use Rattle.std.specs.Prelude.{ℕ, List, [], ◌++◌, codes}
 use Rattle.std.specs.Fmt.{decimal}
-use Rattle.vx_script.specs.declared.fault.LineWhy.{LineWhy}
-use Rattle.vx_script.specs.declared.fault.LineWhy.TheVariants.{Utf8, Pass, Word, Unbuilt, Form}
+use Rattle.vx_line.specs.declared.fault.LineWhy.{LineWhy}
+use Rattle.vx_line.specs.declared.fault.LineWhy.TheVariants.{Utf8, Pass, Word, Unbuilt, Form}
 use Rattle.vx_script.specs.declared.status.Status.{Status}
 use Rattle.vx_script.specs.declared.status.Status.TheVariants as statuses
 

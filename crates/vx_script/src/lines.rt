@@ -4,14 +4,14 @@ ghost use Rattle.std.specs.List.{position_or_len};
 ghost use Rattle.std.specs.Str.Lines.{lines, strip_carriage_return};
 ghost use Rattle.vx_script.specs.Lines as script;
 ghost use Rattle.vx_script.specs.Lines.{commands_of, ScriptFails, Adds};
-ghost use Rattle.vx_script.specs.Reading.{said_at, Fails};
+ghost use Rattle.vx_line.specs.Reading.{said_at};
+ghost use Rattle.vx_words.specs.Reading.{Fails};
 
-use crate::command::Command;
-use crate::fault::{LineFault, ScriptFault};
-use crate::line::read_line;
-use crate::reason::reason;
+use crate::fault::ScriptFault;
 use std::alloc::Global;
 use vx_call::Call;
+use vx_line::{Command, read_line, reason};
+use vx_words::LineFault;
 
 fn newline_at(bytes: &[u8]) -> usize
     ensures value { result ≡ position_or_len (λ b. b == 10) bytes.now }

@@ -11,16 +11,16 @@ ghost use Rattle.vx_io.specs.Faults.{Rose};
 ghost use Rattle.vx_io.specs.Writing.{AppendsFront};
 ghost use Rattle.vx_script.specs.Lines.{AreThere};
 ghost use Rattle.vx_script.specs.Playing.{history_of};
-ghost use Rattle.vx_script.specs.Replies.{reply_line, text};
+ghost use Rattle.vx_reply_text.specs.Replies.{reply_line, text};
 
-use crate::command::Command;
 use crate::limit::LIMIT;
-use crate::reply::write_reply;
 use std::alloc::Global;
 use vx_call::{Call, End, Reply};
 use vx_data::{EntryNo, NoMemory, PassNo};
 use vx_hub::Hub;
 use vx_io::{Sink, SinkFault, write_all};
+use vx_line::Command;
+use vx_reply_text::write_reply;
 
 fn finish(hub: &mut Hub, pass: PassNo, end: End) -> Reply
     ensures { Meets hub.old hub.new pass (Call.Finish end) result }
@@ -38,7 +38,7 @@ fn step(hub: &mut Hub, pass: PassNo, call: Call) -> Result<Reply, NoMemory>
 {
     match hub.step(pass, call) {
         Ok(reply) => Ok(reply),
-        Err(_) => Err(NoMemory),
+        Err(_unmade) => Err(NoMemory),
     }
 }
 
@@ -50,11 +50,13 @@ fn make(hub: &mut Hub, pass: PassNo, call: Call) -> Result<Reply, NoMemory>
     if call.plain() {
         return step(hub, pass, call);
     }
-    match call {
-        Call::Take(lane) => Ok(hub.take(pass, lane)),
-        Call::Finish(end) => Ok(finish(hub, pass, end)),
+    let reply = match &call {
+        Call::Take(lane) => hub.take(pass, *lane),
+        Call::Finish(end) => finish(hub, pass, *end),
         _ => unreachable!(),
-    }
+    };
+    call.let_go();
+    Ok(reply)
 }
 
 /// Writes the line of a reply. The sink has all of it after an `Ok`, and a front of it else.
@@ -91,14 +93,19 @@ fn make_one<K: Sink>(
     ensures later { K.faults sink.old ≤ K.faults sink.new }
     ensures cause { IsErrOf result SinkFault.Failed → Rose (K.faults sink.old) (K.faults sink.new) }
 {
-    match make(hub, command.pass, command.call) {
-        Ok(reply) => write_one(alloc, at, &reply, sink),
+    let (pass, call) = command.into_parts();
+    match make(hub, pass, call) {
+        Ok(reply) => {
+            let written = write_one(alloc, at, &reply, sink);
+            reply.let_go();
+            written
+        }
         Err(_) => Err(SinkFault::NoMemory),
     }
 }
 
-/// Makes all calls on a new hub.
-pub fn make_all<K: Sink>(
+/// Makes all calls on a hub that made none before.
+fn make_all<K: Sink>(
     alloc: Global,
     hub: &mut Hub,
     commands: Vec<Command>,
@@ -118,4 +125,17 @@ pub fn make_all<K: Sink>(
         at += 1;
     }
     Ok(())
+}
+
+/// Makes all calls on a new hub. The sink has the lines of all replies after an `Ok`, and a front of them else.
+pub fn play<K: Sink>(alloc: Global, commands: Vec<Command>, sink: &mut K) -> Result<(), SinkFault>
+    requires few { length commands.items ≤ LIMIT }
+    requires there { AreThere 1 commands.items }
+    ensures ok { OnOk result (Appends (K.held sink.old) (K.held sink.new) (text (history_of commands.items))) }
+    ensures err { OnErr result (AppendsFront (K.held sink.old) (K.held sink.new) (text (history_of commands.items))) }
+    ensures later { K.faults sink.old ≤ K.faults sink.new }
+    ensures cause { IsErrOf result SinkFault.Failed → Rose (K.faults sink.old) (K.faults sink.new) }
+{
+    let mut hub = Hub::new(alloc);
+    make_all(alloc, &mut hub, commands, sink)
 }

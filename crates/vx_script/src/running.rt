@@ -1,6 +1,6 @@
 ghost use Rattle.std.specs.Prelude.{◌≡◌, ◌≢◌, ◌↔◌, ◌≤◌, IsTrue, [], ◌∷◌, codes, ℕ, List, length, Some, Ok};
 ghost use Rattle.vx_io.specs.Faults.{Rose};
-ghost use Rattle.vx_script.specs.declared.command.Command.{Command};
+ghost use Rattle.vx_line.specs.declared.command.Command.{Command};
 ghost use Rattle.vx_script.specs.Lines.{commands_of};
 ghost use Rattle.vx_call.specs.Machine.{IsLegal};
 ghost use Rattle.vx_laws.specs.Deliveries.{DeliversOnce};
@@ -16,11 +16,10 @@ ghost use Rattle.vx_script.specs.Outcome.{IsOutcome, IsSettled};
 use crate::fault::ScriptFault;
 use crate::limit::LIMIT;
 use crate::lines::read_script;
-use crate::playing::make_all;
+use crate::playing::play;
 use crate::status::Status;
 use std::alloc::Global;
 use vx_data::Text;
-use vx_hub::Hub;
 use vx_io::{ReadAllFault, Sink, SinkFault, Source, read_all};
 
 fn is_run(words: &[Text]) -> bool
@@ -52,8 +51,7 @@ fn run<S: Source, K: Sink>(alloc: Global, words: &[Text], source: &mut S, sink: 
         Err(ScriptFault::NoMemory) => return Status::NoMemory,
         Err(ScriptFault::BadLine(line, why)) => return Status::BadLine { line, why },
     };
-    let mut hub = Hub::new(alloc);
-    match make_all(alloc, &mut hub, commands, sink) {
+    match play(alloc, commands, sink) {
         Ok(()) => Status::Done,
         Err(SinkFault::Failed) => Status::WriteFault,
         Err(SinkFault::NoMemory) => Status::NoMemory,

@@ -2,10 +2,10 @@
 ghost use Rattle.std.specs.Prelude.{◌≡◌, ◌++◌, OnOk, OnErr, IfOk, string_bytes};
 ghost use Rattle.vx_script.specs.Statuses as texts;
 
-use crate::fault::LineWhy;
-use crate::text::append;
 use std::alloc::{AllocError, Global};
 use vx_data::NoMemory;
+use vx_line::LineWhy;
+use vx_reply_text::append;
 
 /// How a script ended.
 #[derive(Clone, Copy, Debug, PartialEq, Eq)]

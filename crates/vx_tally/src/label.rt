@@ -10,7 +10,7 @@ pub trait Label: Drop {
 }
 
 /// A label that is its name.
-#[derive(Clone, Copy, Debug, PartialEq, Eq)]
+#[derive(Clone, Copy)]
 pub struct Plain(pub u64);
 
 impl Label for Plain {

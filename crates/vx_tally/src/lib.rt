@@ -3,8 +3,6 @@
 
 mod label;
 mod tally;
-#[cfg(test)]
-mod tests;
 mod uses;
 
 pub use label::{Label, Plain};

@@ -1,29 +1,9 @@
 -- Putting a timer among timers in order.
-use Rattle.std.proofs.Common.{◌≡◌, refl, sym, ◌∙◌, ap, subst, ℕ, zero, suc, ◌+◌, ◌≤◌, ◌<◌, Bool, true, false, not, List, [], ◌∷◌, length, cond, nat_lt, Option, Some, None, unwrap_or, arith, ◌⊎◌, inl, inr, ⊎_elim, filter}
-use Rattle.std.specs.Prelude.{insert, position, drop, All, slice_index_or, ◌&&◌, ◌||◌, ◌==◌}
-use Rattle.std.specs.List.{position_or_len, prefix_len}
+use Rattle.std.proofs.Common.{◌≡◌, refl, ◌∙◌, ap, ℕ, zero, suc, ◌<◌, Bool, true, false, List, [], ◌∷◌, ◌++◌, length, cond, Option, Some, None, arith, ◌⊎◌, inl, inr, ⊎_elim, filter}
+use Rattle.std.specs.Prelude.{All}
 use Rattle.std.proofs.lemmas.Bool.{cases_Bool}
-use Rattle.std.proofs.lemmas.List.Sums.{prefix_len-le-length}
 use Rattle.vx_timer.specs.declared.timers.Timer.{Timer}
 use Rattle.vx_timer.specs.Order.{comes_before, put, are_in_order, is_period, are_periods, again, next_due}
-
--- one step of `insert` at the first place that passes
-pub insert_step : (b : Bool) (timer other : Timer) (others rest : List Timer) (n : ℕ) → insert others n timer ≡ rest →
-    insert (other ∷ others) (cond (not b) (1 + n) 0) timer ≡ cond b (timer ∷ other ∷ others) (other ∷ rest)
-insert_step true timer other others rest n same = refl
-insert_step false timer other others rest n same = let s : 1 + n ≡ suc n = omega arith in rw s (ap (λ xs. other ∷ xs) same)
-
-pub insert_put : (timer : Timer) (timers : List Timer) → insert timers (position_or_len (comes_before timer) timers) timer ≡ put timer timers
-insert_put timer [] = refl
-insert_put timer (other ∷ others) = insert_step (comes_before timer other) timer other others (put timer others) (position_or_len (comes_before timer) others) (insert_put timer others)
-
--- the first place, or the end where there is none
-default_step : (b : Bool) (l n : ℕ) → nat_lt l n ≡ b → l ≤ n → unwrap_or (cond b (Some l) None) n ≡ l
-default_step true l n less within = refl
-default_step false l n less within = grind (arith, less, within)
-
-pub position_default : (p : Timer → Bool) (timers : List Timer) → unwrap_or (position p timers) (length timers) ≡ position_or_len p timers
-position_default p timers = default_step _ _ _ refl (prefix_len-le-length (λ x. not (p x)) timers)
 
 -- of two timers one comes first at most
 pub comes_once : (a b : Timer) → comes_before a b ≡ true → comes_before b a ≡ false
@@ -52,6 +32,35 @@ pub put_keeps_order : (timer : Timer) (timers : List Timer) → are_in_order tim
 put_keeps_order timer [] ordered = refl
 put_keeps_order timer (other ∷ others) ordered = put_step (comes_before timer other) timer other others refl ordered
 
+pub behind_first : (first : Timer) (others : List Timer) → are_in_order (first ∷ others) ≡ true → are_in_order others ≡ true
+behind_first first [] ordered = refl
+behind_first first (second ∷ others) ordered = grind (arith, ordered)
+
+-- a timer that does not come before one comes before none that stands before that one
+not_later : (timer first last : Timer) (others behind : List Timer) → are_in_order (first ∷ others ++ last ∷ behind) ≡ true → comes_before timer last ≡ false → comes_before timer first ≡ false
+not_later timer first last [] behind ordered past = grind (arith, ordered, past)
+not_later timer first last (other ∷ others) behind ordered past =
+    let next = not_later timer other last others behind (behind_first first (other ∷ others ++ last ∷ behind) ordered) past in grind (arith, ordered, next)
+
+past_step : (b : Bool) (timer other : Timer) (others : List Timer) → b ≡ false → cond b (timer ∷ other ∷ others) (other ∷ put timer others) ≡ other ∷ put timer others
+past_step true timer other others past = absurd (cc)
+past_step false timer other others past = refl
+
+-- so it goes past all of them
+pub put_past : (timer last : Timer) (others behind : List Timer) → are_in_order (others ++ last ∷ behind) ≡ true → comes_before timer last ≡ false →
+    put timer (others ++ last ∷ behind) ≡ others ++ last ∷ put timer behind
+put_past timer last [] behind ordered past = past_step (comes_before timer last) timer last behind past
+put_past timer last (other ∷ others) behind ordered past =
+    past_step (comes_before timer other) timer other (others ++ last ∷ behind) (not_later timer other last others behind ordered past)
+    ∙ ap (λ timers. other ∷ timers) (put_past timer last others behind (behind_first other (others ++ last ∷ behind) ordered) past)
+
+first_step : (b : Bool) (timer other : Timer) (others : List Timer) → b ≡ true → cond b (timer ∷ other ∷ others) (other ∷ put timer others) ≡ timer ∷ other ∷ others
+first_step true timer other others before = refl
+first_step false timer other others before = absurd (cc)
+
+pub put_first : (timer other : Timer) (others : List Timer) → comes_before timer other ≡ true → put timer (other ∷ others) ≡ timer ∷ other ∷ others
+put_first timer other others before = first_step (comes_before timer other) timer other others before
+
 -- the first of timers in order comes before none of those behind the second
 skip_second : (first second : Timer) (others : List Timer) → are_in_order (first ∷ second ∷ others) ≡ true → are_in_order (first ∷ others) ≡ true
 skip_second first second [] ordered = refl
@@ -69,10 +78,6 @@ left_behind keep first (second ∷ others) ordered =
       | true ↦ grind (arith, ordered, left_behind keep second others (grind (arith, ordered)))
       | false ↦ left_behind keep first others (skip_second first second others ordered)
     ]
-
-behind_first : (first : Timer) (others : List Timer) → are_in_order (first ∷ others) ≡ true → are_in_order others ≡ true
-behind_first first [] ordered = refl
-behind_first first (second ∷ others) ordered = grind (arith, ordered)
 
 -- timers in order stay so where some are left out
 pub left_in_order : (keep : Timer → Bool) (timers : List Timer) → are_in_order timers ≡ true → are_in_order (filter keep timers) ≡ true
@@ -100,14 +105,12 @@ left_with_periods keep (first ∷ others) periods =
       | false ↦ left_with_periods keep others (grind (arith, periods))
     ]
 
--- what stands behind the first of timers in order is in order
-pub dropped_in_order : (timers : List Timer) → are_in_order timers ≡ true → are_in_order (drop 1 timers) ≡ true
-dropped_in_order [] ordered = refl
-dropped_in_order (first ∷ others) ordered = behind_first first others ordered
+pub periods_behind : (first : Timer) (others : List Timer) → are_periods (first ∷ others) ≡ true → are_periods others ≡ true
+periods_behind first others periods = grind (arith, periods)
 
-pub dropped_with_periods : (timers : List Timer) → are_periods timers ≡ true → are_periods (drop 1 timers) ≡ true
-dropped_with_periods [] periods = refl
-dropped_with_periods (first ∷ others) periods = grind (arith, periods)
+-- the period of the first timer is within its bounds
+pub first_period : (first : Timer) (others : List Timer) → are_periods (first ∷ others) ≡ true → is_period first.period ≡ true
+first_period first others periods = grind (arith, periods)
 
 -- a timer that fired is put back in order
 pub again_keeps_order : (now : ℕ) (timer : Timer) (period : Option ℕ) (others : List Timer) → are_in_order others ≡ true → are_in_order (again now timer period others) ≡ true
@@ -119,17 +122,8 @@ again_keeps_periods now timer None others period periods = periods
 again_keeps_periods now timer (Some length) others period periods = put_keeps_periods (record timer { due = next_due timer.due length now }) others period periods
 
 -- where the first timer is not due, none is
-all_behind : (now : ℕ) (first : Timer) (others : List Timer) → are_in_order (first ∷ others) ≡ true → now < first.due → All (λ (timer : Timer). now < timer.due) (first ∷ others)
+pub all_behind : (now : ℕ) (first : Timer) (others : List Timer) → are_in_order (first ∷ others) ≡ true → now < first.due → All (λ (timer : Timer). now < timer.due) (first ∷ others)
 all_behind now first others ordered later zero d less = later
 all_behind now first [] ordered later (suc k) d less = absurd (omega (arith, less))
 all_behind now first (second ∷ others) ordered later (suc k) d less =
     all_behind now second others (behind_first first (second ∷ others) ordered) (grind (arith, ordered, later)) k d (omega (arith, less))
-
-pub all_later : (now : ℕ) (timers : List Timer) → are_in_order timers ≡ true → (first : Timer) → first ≡ slice_index_or timers 0 first → now < first.due → All (λ (timer : Timer). now < timer.due) timers
-all_later now [] ordered first is later = λ k d less. absurd (omega (arith, less))
-all_later now (timer ∷ others) ordered first is later = all_behind now timer others ordered (let P : Timer → Type 0 = λ t. now < t.due in subst P is later)
-
--- the period of the first timer is within its bounds
-pub first_period : (timers : List Timer) (first : Timer) → first ≡ slice_index_or timers 0 first → 0 < length timers → are_periods timers ≡ true → is_period first.period ≡ true
-first_period [] first is there periods = absurd (omega (arith, there))
-first_period (timer ∷ others) first is there periods = let P : Timer → Type 0 = λ t. is_period t.period ≡ true in subst P (sym is) (grind (arith, periods))

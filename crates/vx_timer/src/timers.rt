@@ -1,16 +1,19 @@
-ghost use Rattle.std.specs.Prelude.{◌≡◌, ◌+◌, ◌*◌, ◌<◌, ◌≤◌, ◌^◌, [], not, filter, length, All, IfSome, IfNone, OnOk, OnErr, Some, position, true, ℕ};
-ghost use Rattle.std.specs.List.{list_any, position_or_len};
-ghost use Rattle.std.specs.VecDeque.{deque_len, deque_capacity};
-ghost use Rattle.vx_timer.specs.Order.{comes_before, put, next_due, again, first_due, is_named, is_period, are_in_order, are_periods, Fires};
+ghost use Rattle.std.specs.Prelude.{◌≡◌, ◌+◌, ◌*◌, ◌<◌, ◌≤◌, ◌^◌, [], ◌∷◌, not, filter, length, All, IfSome, IfNone, OnOk, OnErr, true, ℕ};
+ghost use Rattle.std.specs.List.{list_any};
+ghost use Rattle.vx_timer.specs.Order.{put, next_due, again, first_due, is_named, is_period, are_in_order, are_periods, Fires};
+ghost use Rattle.vx_timer.specs.Queued.{timers_in, AreNamed};
 
-use std::alloc::{AllocFailed, Global};
-use std::collections::VecDeque;
+use crate::names::{forget, note, note_again};
+use crate::queue::Queue;
+use indexmap::IndexMap;
+use std::alloc::Global;
 use std::marker::Model;
 use vx_data::{EntryNo, Moment, NoMemory};
+use vx_items::ItemId;
 
 /// A timer: the entry that set it, the moment at which it fires next, in milliseconds, and for a periodic one the
 /// milliseconds from one firing to the next.
-#[derive(Clone, Copy, Debug, PartialEq, Eq)]
+#[derive(Clone, Copy)]
 pub struct Timer {
     pub id: EntryNo,
     pub due: u64,
@@ -20,52 +23,22 @@ pub struct Timer {
 /// Timers. Contracts see them as a list by (due moment, id).
 #[derive(Drop)]
 pub struct Timers {
-    list: VecDeque<Timer>,
+    queue: Queue,
+    names: IndexMap<u64, ItemId>,
+    // whether an id was set while it had a timer: then `names` isn't asked any more
+    repeated: bool,
 }
 
 impl Model for Timers {
-    ghost use Rattle.std.specs.Prelude.{◌≡◌, List, true};
+    ghost use Rattle.std.specs.Prelude.{List};
     ghost use Rattle.vx_timer.specs.declared.timers.Timer.{Timer};
-    ghost use Rattle.vx_timer.specs.Order.{are_in_order, are_periods};
+    ghost use Rattle.vx_timer.specs.Queued.{timers_in, AreKept};
 
     ghost Value = { List Timer };
 
-    ghost view = { λ timers. timers.list.items };
+    ghost view = { λ timers. timers_in timers.queue.entries };
 
-    ghost invariant = { λ timers. (are_in_order timers.list.items ≡ true) × (are_periods timers.list.items ≡ true) };
-}
-
-fn comes_before(a: &Timer, b: &Timer) -> bool
-    ensures { result ≡ comes_before a.now b.now }
-{
-    a.due < b.due || (a.due == b.due && a.id.0 < b.id.0)
-}
-
-/// The first of the timers in order before which a timer comes.
-fn first_later(list: &VecDeque<Timer>, timer: &Timer) -> Option<usize>
-    ensures { result ≡ position (comes_before timer.now) list.now.items }
-{
-    list.iter().position(|other| comes_before(timer, other))
-}
-
-/// The place of a timer among timers in order: that of the first before which it comes, or the end.
-#[tactic(auto, using(crate::proofs::Orders::position_default))]
-fn place(list: &VecDeque<Timer>, timer: &Timer) -> usize
-    ensures place { result ≡ position_or_len (comes_before timer.now) list.now.items }
-    ensures within { result ≤ length list.now.items }
-{
-    first_later(list, timer).unwrap_or(list.len())
-}
-
-/// Puts a timer among timers in order.
-#[tactic(auto, using(crate::proofs::Orders::insert_put))]
-fn put(list: &mut VecDeque<Timer>, timer: Timer) -> Result<(), AllocFailed<Timer>>
-    ensures ok { OnOk result (list.new.items ≡ put timer list.old.items) }
-    ensures err { OnErr result (list.new.items ≡ list.old.items) }
-    ensures full { OnErr result (deque_capacity list.old ≤ deque_len list.old) }
-{
-    let index = place(list, &timer);
-    list.insert(index, timer)
+    ghost invariant = { λ timers. AreKept timers.queue.entries timers.names.entries timers.repeated };
 }
 
 impl Timers {
@@ -74,30 +47,42 @@ impl Timers {
         ensures { result ≡ [] }
     {
         Timers {
-            list: VecDeque::new(alloc),
+            queue: Queue::new(alloc),
+            names: IndexMap::new(alloc),
+            repeated: false,
         }
     }
 
     /// Sets a timer. A period is 1 to 1,000,000,000,000 ms.
-    #[tactic(auto, using(crate::proofs::Orders::put_keeps_order, crate::proofs::Orders::put_keeps_periods))]
     pub fn set(&mut self, id: EntryNo, due: u64, period: Option<u64>) -> Result<(), NoMemory>
         requires { is_period period ≡ true }
         ensures ok { OnOk result (self.new ≡ put (record { id = id; due = due; period = period }) self.old) }
         ensures err { OnErr result (self.new ≡ self.old) }
     {
-        put(&mut self.list, Timer { id, due, period })?;
+        self.queue.reserve()?;
+        self.names.reserve(1)?;
+        let item = self.queue.put(Timer { id, due, period });
+        if note(&mut self.names, id, item) {
+            self.repeated = true;
+        }
         Ok(())
     }
 
     /// Ends a timer, and says whether it was there.
-    #[tactic(auto, using(crate::proofs::Orders::left_in_order, crate::proofs::Orders::left_with_periods))]
     pub fn cancel(&mut self, id: EntryNo) -> bool
         ensures found { result ≡ list_any (is_named id) self.old }
         ensures left { self.new ≡ filter (λ timer. not (is_named id timer)) self.old }
     {
-        let found = self.list.iter().any(|timer| id == timer.id);
-        leave_out(&mut self.list, id);
-        found
+        if self.repeated {
+            return self.queue.remove_each(id);
+        }
+        match forget(&mut self.names, id) {
+            Some(item) => {
+                self.queue.remove(item);
+                true
+            }
+            None => false,
+        }
     }
 
     /// The timer that is due first, by (due moment, id), if one is due now. A one-shot timer ends; a periodic one is due
@@ -107,29 +92,22 @@ impl Timers {
         ensures later { IfNone result (All (λ timer. now < timer.due) self.old) }
         ensures fires { IfSome result (λ fired. Fires now self.old self.new fired.0 fired.1) }
     {
-        fire(&mut self.list, now.ms())
+        fire(&mut self.queue, &mut self.names, now.ms())
     }
 
     /// How many timers there are.
     pub fn count(&self) -> usize
         ensures { result ≡ length self.now }
     {
-        self.list.len()
+        self.queue.count()
     }
 
     /// The least due moment.
     pub fn next_due(&self) -> Option<u64>
         ensures { result ≡ first_due self.now }
     {
-        self.list.front().map(|timer| timer.due)
+        self.queue.first().map(|(_, timer)| timer.due)
     }
-}
-
-// Leaves out a timer.
-fn leave_out(list: &mut VecDeque<Timer>, id: EntryNo)
-    ensures { list.new.items ≡ filter (λ timer. not (is_named id timer)) list.old.items }
-{
-    list.retain(|timer| id != timer.id);
 }
 
 // When a timer fires again: at the first moment past now that is a multiple of its period behind its due moment.
@@ -143,40 +121,46 @@ fn next_due(due: u64, period: u64, now: u64) -> u64
     due + ((now - due) / period + 1) * period
 }
 
-// A periodic timer that fired is put among the others again.
-fn set_again(list: &mut VecDeque<Timer>, timer: Timer, now: u64)
-    requires room { deque_len list.old < deque_capacity list.old }
+// A periodic timer that fired is put among the others again, and the id of another one is forgotten.
+fn set_again(queue: &mut Queue, names: &mut IndexMap<u64, ItemId>, timer: Timer, now: u64)
+    requires room { 0 < queue.old.room }
+    requires ordered { are_in_order (timers_in queue.old.entries) ≡ true }
     requires period { is_period timer.period ≡ true }
     requires is_due { timer.due ≤ now }
     requires early { now ≤ 2 ^ 62 }
-    ensures { list.new.items ≡ again now timer timer.period list.old.items }
+    ensures again { timers_in queue.new.entries ≡ again now timer timer.period (timers_in queue.old.entries) }
+    ensures named { (item : ℕ) → AreNamed (record { id = item; value = timer } ∷ queue.old.entries) names.old.entries → AreNamed queue.new.entries names.new.entries }
 {
     match timer.period {
-        None => {}
+        None => {
+            forget(names, timer.id);
+        }
         Some(period) => {
             let due = next_due(timer.due, period, now);
-            put(list, Timer { due, ..timer }).unwrap();
+            let item = queue.put(Timer { due, ..timer });
+            note_again(names, timer.id, item);
         }
     }
 }
 
 // Takes the first of timers in order, if it is due, and puts it among the others again where it is periodic.
-fn fire(list: &mut VecDeque<Timer>, now: u64) -> Option<(u64, EntryNo)>
-    requires ordered { are_in_order list.old.items ≡ true }
-    requires periods { are_periods list.old.items ≡ true }
+fn fire(queue: &mut Queue, names: &mut IndexMap<u64, ItemId>, now: u64) -> Option<(u64, EntryNo)>
+    requires ordered { are_in_order (timers_in queue.old.entries) ≡ true }
+    requires periods { are_periods (timers_in queue.old.entries) ≡ true }
     requires early { now ≤ 2 ^ 62 }
-    ensures ordered { are_in_order list.new.items ≡ true }
-    ensures periods { are_periods list.new.items ≡ true }
-    ensures none { IfNone result (list.new.items ≡ list.old.items) }
-    ensures later { IfNone result (All (λ timer. now < timer.due) list.old.items) }
-    ensures fires { IfSome result (λ fired. Fires now list.old.items list.new.items fired.0 fired.1) }
+    ensures ordered { are_in_order (timers_in queue.new.entries) ≡ true }
+    ensures periods { are_periods (timers_in queue.new.entries) ≡ true }
+    ensures named { AreNamed queue.old.entries names.old.entries → AreNamed queue.new.entries names.new.entries }
+    ensures none { IfNone result (timers_in queue.new.entries ≡ timers_in queue.old.entries) }
+    ensures later { IfNone result (All (λ timer. now < timer.due) (timers_in queue.old.entries)) }
+    ensures fires { IfSome result (λ fired. Fires now (timers_in queue.old.entries) (timers_in queue.new.entries) fired.0 fired.1) }
 {
-    let first = *list.front()?;
+    let (item, first) = queue.first()?;
     if first.due > now {
         return None;
     }
-    list.pop_front();
-    set_again(list, first, now);
+    queue.remove(item);
+    set_again(queue, names, first, now);
     Some((first.due, first.id))
 }
 

@@ -1,31 +1,34 @@
 use std::alloc::{AllocError, Global};
-use std::process::Abort;
 use std::test::Fail;
 use vx_data::Text;
 use vx_io::{MemSink, MemSource};
 use vx_script::{LineWhy, Status, script};
 
-fn run_words(alloc: Global) -> Result<Vec<Text>, Fail> {
-    let mut words = Vec::new(alloc);
-    words.push(Text::new(alloc, b"run")?)?;
-    Ok(words)
-}
-
-/// Plays a script over forms in memory, and compares its status and its output.
-fn plays(
-    rt: &impl Abort,
+/// Whether a script with these words ends so, and its sink then holds this.
+fn ends(
     alloc: Global,
-    input: &[u8],
+    words: &[Text],
+    mut source: MemSource,
+    mut sink: MemSink,
     status: Status,
     output: &[u8],
-) -> Result<(), Fail> {
-    let words = run_words(alloc)?;
-    let mut source = MemSource::new(input.to_vec(alloc)?, Vec::new(alloc));
-    let mut sink = MemSink::new(alloc, Vec::new(alloc));
-    let got = script(alloc, &words, &mut source, &mut sink);
-    assert_eq!(rt; got, status, "status at {input:?}");
-    assert_eq!(rt; sink.bytes(), output, "output at {input:?}");
-    Ok(())
+) -> bool {
+    let got = script(alloc, words, &mut source, &mut sink);
+    got == status && sink.bytes() == output
+}
+
+/// Whether a script over forms in memory ends so, and writes this.
+fn plays(alloc: Global, input: Vec<u8>, status: Status, output: &[u8]) -> bool {
+    let source = MemSource::new(input, Vec::new(alloc));
+    let sink = MemSink::new(alloc, Vec::new(alloc));
+    ends(
+        alloc,
+        &[Text::constant("run")],
+        source,
+        sink,
+        status,
+        output,
+    )
 }
 
 fn bad(line: u64, why: LineWhy) -> Status {
@@ -191,7 +194,7 @@ static GOOD: [(&str, &str); 38] = [
 ];
 
 /// Bad scripts, with the first line in no form, and why. A `/` stands for a newline.
-static BAD: [(&str, u64, LineWhy); 90] = [
+static BAD: [(&str, u64, LineWhy); 93] = [
     ("context/foo", 2, LineWhy::Word),
     ("context/pass 1", 2, LineWhy::Form),
     ("context\r//# fine/context 1/foo", 4, LineWhy::Form),
@@ -212,6 +215,7 @@ static BAD: [(&str, u64, LineWhy); 90] = [
     ("@0 @0 pass", 1, LineWhy::Word),
     ("@0 loops", 1, LineWhy::Unbuilt),
     ("close 1", 1, LineWhy::Unbuilt),
+    ("pool p 1", 1, LineWhy::Unbuilt),
     ("register +x +limit:", 1, LineWhy::Form),
     ("register +limit 0 a", 1, LineWhy::Form),
     ("register +limit:x 0 a", 1, LineWhy::Form),
@@ -256,6 +260,8 @@ static BAD: [(&str, u64, LineWhy); 90] = [
     ("unrule +1", 1, LineWhy::Form),
     ("take loop 1", 1, LineWhy::Unbuilt),
     ("take pool", 1, LineWhy::Unbuilt),
+    ("take named e", 1, LineWhy::Unbuilt),
+    ("take +x loop 0", 1, LineWhy::Form),
     ("take own", 1, LineWhy::Form),
     ("take any 0", 1, LineWhy::Form),
     ("finish later", 1, LineWhy::Unbuilt),
@@ -299,9 +305,9 @@ fn lines_of(alloc: Global, text: &str) -> Result<Vec<u8>, AllocError> {
 fn good_scripts(rt: HostRuntime) -> Result<(), Fail> {
     let alloc = rt.alloc();
     for (input, output) in GOOD {
-        let input = lines_of(alloc, input)?;
-        let output = lines_of(alloc, output)?;
-        plays(&rt, alloc, &input, Status::Done, &output)?;
+        let written = lines_of(alloc, output)?;
+        let as_told = plays(alloc, lines_of(alloc, input)?, Status::Done, &written);
+        assert!(rt; as_told, "{input}");
     }
     Ok(())
 }
@@ -310,24 +316,30 @@ fn good_scripts(rt: HostRuntime) -> Result<(), Fail> {
 fn bad_lines(rt: HostRuntime) -> Result<(), Fail> {
     let alloc = rt.alloc();
     for (input, line, why) in BAD {
-        let input = lines_of(alloc, input)?;
-        plays(&rt, alloc, &input, bad(line, why), b"")?;
+        let as_told = plays(alloc, lines_of(alloc, input)?, bad(line, why), b"");
+        assert!(rt; as_told, "{input}");
     }
     for input in [
         b"# \xff".as_slice(),
         b"context\xc3".as_slice(),
         b"foo\xff".as_slice(),
     ] {
-        plays(&rt, alloc, input, bad(1, LineWhy::Utf8), b"")?;
+        let as_told = plays(alloc, input.to_vec(alloc)?, bad(1, LineWhy::Utf8), b"");
+        assert!(rt; as_told, "{input:?}");
     }
     Ok(())
 }
 
-/// A script that registers at an address of so many bytes.
-fn long_address(alloc: Global, count: usize) -> Result<Vec<u8>, AllocError> {
-    let mut input = b"context\nregister 0 ".to_vec(alloc)?;
+/// A text, and behind it so many times another.
+fn with_many(
+    alloc: Global,
+    front: &[u8],
+    count: usize,
+    more: &[u8],
+) -> Result<Vec<u8>, AllocError> {
+    let mut input = front.to_vec(alloc)?;
     for _ in 0..count {
-        input.push(b'a')?;
+        input.extend_from_slice(more)?;
     }
     Ok(input)
 }
@@ -335,51 +347,39 @@ fn long_address(alloc: Global, count: usize) -> Result<Vec<u8>, AllocError> {
 #[test]
 fn addresses_have_1024_bytes_at_most(rt: HostRuntime) -> Result<(), Fail> {
     let alloc = rt.alloc();
-    let longest = long_address(alloc, 1024)?;
-    plays(
-        &rt,
-        alloc,
-        &longest,
-        Status::Done,
-        b"context 0\nconsumer 1\n",
-    )?;
-    let longer = long_address(alloc, 1025)?;
-    plays(
-        &rt,
-        alloc,
-        &longer,
-        Status::Done,
-        b"context 0\nrefused 9 bad address\n",
-    )
+    for (count, output) in [
+        (1024, "context 0\nconsumer 1\n"),
+        (1025, "context 0\nrefused 9 bad address\n"),
+    ] {
+        let input = with_many(alloc, b"context\nregister 0 ", count, b"a")?;
+        let as_told = plays(alloc, input, Status::Done, output.as_bytes());
+        assert!(rt; as_told, "{count}");
+    }
+    Ok(())
 }
 
 /// A line that sends so many arrays, one in another.
 fn deep_body(alloc: Global, depth: usize) -> Result<Vec<u8>, AllocError> {
-    let mut line = b"send a ".to_vec(alloc)?;
-    for _ in 0..depth {
-        line.push(b'[')?;
-    }
-    for _ in 0..depth {
-        line.push(b']')?;
-    }
-    Ok(line)
+    let line = with_many(alloc, b"send a ", depth, b"[")?;
+    with_many(alloc, &line, depth, b"]")
 }
 
 #[test]
 fn bodies_are_100_deep_at_most(rt: HostRuntime) -> Result<(), Fail> {
     let alloc = rt.alloc();
-    let deepest = deep_body(alloc, 100)?;
-    plays(&rt, alloc, &deepest, Status::Done, b"sent 0 to none\n")?;
-    let deeper = deep_body(alloc, 101)?;
-    plays(&rt, alloc, &deeper, bad(1, LineWhy::Form), b"")
+    for (depth, status, output) in [
+        (100, Status::Done, "sent 0 to none\n"),
+        (101, bad(1, LineWhy::Form), ""),
+    ] {
+        let as_told = plays(alloc, deep_body(alloc, depth)?, status, output.as_bytes());
+        assert!(rt; as_told, "{depth}");
+    }
+    Ok(())
 }
 
 /// A line that sends so many headers.
 fn many_headers(alloc: Global, count: usize) -> Result<Vec<u8>, AllocError> {
-    let mut line = b"send".to_vec(alloc)?;
-    for _ in 0..count {
-        line.extend_from_slice(b" +h:a=b")?;
-    }
+    let mut line = with_many(alloc, b"send", count, b" +h:a=b")?;
     line.extend_from_slice(b" a 1")?;
     Ok(line)
 }
@@ -387,76 +387,91 @@ fn many_headers(alloc: Global, count: usize) -> Result<Vec<u8>, AllocError> {
 #[test]
 fn lines_have_1152_headers_at_most(rt: HostRuntime) -> Result<(), Fail> {
     let alloc = rt.alloc();
-    let sent = many_headers(alloc, 1024)?;
-    plays(&rt, alloc, &sent, Status::Done, b"sent 0 to none\n")?;
-    let most = many_headers(alloc, 1152)?;
-    plays(
-        &rt,
-        alloc,
-        &most,
-        Status::Done,
-        b"refused 10 too large 1024\n",
-    )?;
-    let more = many_headers(alloc, 1153)?;
-    plays(&rt, alloc, &more, bad(1, LineWhy::Form), b"")
+    for (count, status, output) in [
+        (1024, Status::Done, "sent 0 to none\n"),
+        (1152, Status::Done, "refused 10 too large 1024\n"),
+        (1153, bad(1, LineWhy::Form), ""),
+    ] {
+        let as_told = plays(
+            alloc,
+            many_headers(alloc, count)?,
+            status,
+            output.as_bytes(),
+        );
+        assert!(rt; as_told, "{count}");
+    }
+    Ok(())
 }
 
-/// A request that is failed with a text of this length.
-fn long_failure(alloc: Global, len: usize) -> Result<Vec<u8>, AllocError> {
-    let mut input = Vec::new(alloc);
-    input.extend_from_slice(b"context\nregister 0 a\nrequest 0 a 1\ntake own 0\nfail 2 1 ")?;
-    for _ in 0..len {
-        input.push(b'x')?;
-    }
-    Ok(input)
-}
+/// A request that is failed with a text of what follows.
+static FAILING: &str = "context\nregister 0 a\nrequest 0 a 1\ntake own 0\nfail 2 1 ";
 
 #[test]
 fn failures_have_65536_bytes_at_most(rt: HostRuntime) -> Result<(), Fail> {
     let alloc = rt.alloc();
-    let longest = long_failure(alloc, 65_536)?;
-    plays(
-        &rt,
-        alloc,
-        &longest,
-        Status::Done,
-        b"context 0\nconsumer 1\nasked 2 to 1\nrequest 1 2 1\nok\n",
-    )?;
-    let longer = long_failure(alloc, 65_537)?;
-    plays(
-        &rt,
-        alloc,
-        &longer,
-        Status::Done,
-        b"context 0\nconsumer 1\nasked 2 to 1\nrequest 1 2 1\nrefused 10 too large 65536\n",
-    )
+    for (count, output) in [
+        (
+            65_536,
+            "context 0\nconsumer 1\nasked 2 to 1\nrequest 1 2 1\nok\n",
+        ),
+        (
+            65_537,
+            "context 0\nconsumer 1\nasked 2 to 1\nrequest 1 2 1\nrefused 10 too large 65536\n",
+        ),
+    ] {
+        let input = with_many(alloc, FAILING.as_bytes(), count, b"x")?;
+        let as_told = plays(alloc, input, Status::Done, output.as_bytes());
+        assert!(rt; as_told, "{count}");
+    }
+    Ok(())
+}
+
+/// Whether two lines end so where this read and this write fail.
+fn fails(
+    alloc: Global,
+    read: u64,
+    write: u64,
+    status: Status,
+    output: &str,
+) -> Result<bool, AllocError> {
+    let source = MemSource::new(b"finish\nfinish\n".to_vec(alloc)?, vec![in alloc; read]?);
+    let sink = MemSink::new(alloc, vec![in alloc; write]?);
+    let words = [Text::constant("run")];
+    Ok(ends(alloc, &words, source, sink, status, output.as_bytes()))
 }
 
 #[test]
 fn faults(rt: HostRuntime) -> Result<(), Fail> {
     let alloc = rt.alloc();
-    let input = b"finish\nfinish\n";
     for (read, write, status, output) in [
         (0u64, 9u64, Status::ReadFault, ""),
         (1, 9, Status::ReadFault, ""),
         (9, 0, Status::WriteFault, ""),
         (9, 1, Status::WriteFault, "refused 5 not holding\n"),
     ] {
-        let words = run_words(alloc)?;
-        let mut source = MemSource::new(input.to_vec(alloc)?, vec![in alloc; read]?);
-        let mut sink = MemSink::new(alloc, vec![in alloc; write]?);
-        assert_eq!(rt; script(alloc, &words, &mut source, &mut sink), status);
-        assert_eq!(rt; sink.bytes(), output.as_bytes());
+        let as_told = fails(alloc, read, write, status, output)?;
+        assert!(rt; as_told, "{read} {write}");
     }
-    let none = Vec::new(alloc);
-    let mut source = MemSource::new(input.to_vec(alloc)?, Vec::new(alloc));
-    let mut sink = MemSink::new(alloc, Vec::new(alloc));
-    assert_eq!(rt; script(alloc, &none, &mut source, &mut sink), Status::Usage);
     Ok(())
 }
 
 #[test]
-fn fault_lines(rt: HostRuntime) -> Result<(), Fail> {
+fn no_words(rt: HostRuntime) {
+    let alloc = rt.alloc();
+    let source = MemSource::new(Vec::new(alloc), Vec::new(alloc));
+    let sink = MemSink::new(alloc, Vec::new(alloc));
+    assert!(rt; ends(alloc, &[], source, sink, Status::Usage, b""));
+}
+
+/// Whether a status has this number, and says this.
+fn says(alloc: Global, status: Status, code: u8, line: &str) -> bool {
+    let mut got = Vec::new(alloc);
+    let made = status.text(alloc, &mut got);
+    made.is_ok() && got.as_slice() == line.as_bytes() && status.code() == code
+}
+
+#[test]
+fn fault_lines(rt: HostRuntime) {
     for (status, code, line) in [
         (Status::Done, 0, ""),
         (Status::Usage, 2, "vxscript: usage\n"),
@@ -474,10 +489,6 @@ fn fault_lines(rt: HostRuntime) -> Result<(), Fail> {
         (Status::TooLong(1), 6, "vxscript: too long\n"),
         (Status::NoMemory, 9, "vxscript: no memory\n"),
     ] {
-        let mut got = Vec::new(rt.alloc());
-        assert_eq!(rt; status.text(rt.alloc(), &mut got), Ok(()));
-        assert_eq!(rt; got.as_slice(), line.as_bytes());
-        assert_eq!(rt; status.code(), code);
+        assert!(rt; says(rt.alloc(), status, code, line), "{line}");
     }
-    Ok(())
 }

@@ -4,7 +4,7 @@ ghost use Rattle.vx_call.specs.declared.call.Call.TheVariants as calls;
 ghost use Rattle.vx_call.specs.declared.reply.Reply.TheVariants as replies;
 ghost use Rattle.vx_call.specs.declared.history.Traced.{Traced};
 ghost use Rattle.vx_context.specs.Stands.{IsNext};
-ghost use Rattle.vx_core_bus.specs.Stands.{StoresStand, Follows, HavePlaces, IsAt};
+ghost use Rattle.vx_bus_store.specs.Stands.{StoresStand, Follows, HavePlaces, IsAt};
 ghost use Rattle.vx_hub.specs.Advancing.{HasAdvanced};
 
 use vx_call::Reply;

@@ -6,7 +6,7 @@ ghost use Rattle.vx_call.specs.declared.history.Traced.{Traced};
 ghost use Rattle.vx_call.specs.Rows as rows;
 ghost use Rattle.vx_context.specs.Stores.{is_ready};
 ghost use Rattle.vx_context.specs.Stands.{ContextsStand, IsNext};
-ghost use Rattle.vx_core_bus.specs.Stands.{StoresStand, Follows, HavePlaces, AreOfOneHistory};
+ghost use Rattle.vx_bus_store.specs.Stands.{StoresStand, Follows, HavePlaces, AreOfOneHistory};
 
 use vx_call::{Lane, Refusal, Reply, Task};
 use vx_context::{Contexts, already_holding, no_lane, not_your_lane};

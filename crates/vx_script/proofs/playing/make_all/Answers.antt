@@ -2,7 +2,7 @@ use Rattle.std.proofs.Common.{◌<◌, ◌^◌, List, subst, arith}
 use Rattle.std.proofs.lemmas.Result.{err_from_is_err_and}
 use Rattle.std.specs.Vec.Iter.{into_iter_items}
 use Rattle.vx_hub.specs.Stands.{StandsFor}
-use Rattle.vx_script.specs.declared.command.Command.{Command}
+use Rattle.vx_line.specs.declared.command.Command.{Command}
 use Rattle.vx_script.proofs.Histories.{Goes, begins_all, cut_off, one_more}
 use Rattle.vx_script.proofs.playing.make_all.Goals as goal
 

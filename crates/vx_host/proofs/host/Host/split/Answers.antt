@@ -5,10 +5,20 @@ use Rattle.vx_call.specs.declared.call.Call.TheVariants as calls
 use Rattle.vx_call.specs.declared.reply.Refusal.TheVariants as refusals
 use Rattle.vx_call.specs.declared.reply.Reply.TheVariants as replies
 use Rattle.vx_call.specs.declared.history.Traced.{Traced}
+use Rattle.vx_call.specs.Machine.{IsLegal}
 use Rattle.vx_turn.specs.Caller.{Caller}
-use Rattle.vx_turn.specs.Passes.{caller, caller_in, seen_in, number}
-use Rattle.vx_host.proofs.Calls.{called_since, split_ended, split_opened, split_spent}
+use Rattle.vx_turn.specs.Passes.{caller, caller_in, machine_in, seen_in, number}
+use Rattle.vx_hub.specs.Stands.{HubStands}
+use Rattle.vx_host.proofs.Calls.{called_since, nothing_more, split_ended, split_opened, split_spent}
 use Rattle.vx_host.proofs.host.Host.split.Goals as goal
+
+pub put_back-requires : goal.put_back-requires
+put_back-requires g c =
+    let split = c.split-new.new.self in
+    record {
+      parts = nothing_more (HubStands (machine_in split)) (seen_in split) _ c.split-new.ensures.stands;
+      legal = nothing_more IsLegal (seen_in split) _ c.split-new.ensures.legal;
+    }
 
 pub returns-clause-called : goal.returns-clause-called
 returns-clause-called g c =

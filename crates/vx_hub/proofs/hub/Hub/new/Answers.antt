@@ -20,7 +20,7 @@ use Rattle.vx_call.specs.Rows.{ids_of}
 use Rattle.vx_call.proofs.Lasting.{lasting_none}
 use Rattle.vx_call.proofs.Legal.{legal_none}
 use Rattle.vx_context.specs.Stores.{ContextStore, item_of}
-use Rattle.vx_core_bus.specs.Stores.{handler_of, row_of, timer_of}
+use Rattle.vx_bus_store.specs.Stores.{handler_of, row_of, timer_of}
 use Rattle.vx_hub.specs.Stores.{HubStore}
 use Rattle.vx_hub.specs.Stands.{HubStands}
 use Rattle.vx_hub.proofs.hub.Hub.new.Goals as goal

@@ -1,7 +1,7 @@
 use Rattle.std.proofs.Common.{List}
 use Rattle.vx_call.specs.declared.history.Traced.{Traced}
 use Rattle.vx_context.specs.Stands.{IsNext}
-use Rattle.vx_core_bus.specs.Stands.{StoresStand, HavePlaces}
+use Rattle.vx_bus_store.specs.Stands.{StoresStand, HavePlaces}
 use Rattle.vx_hub.specs.Advancing.{Advanced}
 use Rattle.vx_hub.proofs.rows.advance.time_out_due.Given as goal
 

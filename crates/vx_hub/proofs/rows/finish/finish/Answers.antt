@@ -1,7 +1,7 @@
 use Rattle.std.proofs.Common.{ap, sym}
 use Rattle.vx_call.specs.declared.reply.Reply.TheVariants as replies
 use Rattle.vx_call.specs.Refusals.{unless_refused}
-use Rattle.vx_core_bus.proofs.Frames.{refused_contexts}
+use Rattle.vx_bus_store.proofs.Frames.{refused_contexts}
 use Rattle.vx_hub.proofs.RowFinish.{ends_task}
 use Rattle.vx_hub.proofs.rows.finish.finish.Goals as goal
 

@@ -2,7 +2,7 @@ use Rattle.std.proofs.Common.{ap, sym, ◌∙◌}
 use Rattle.vx_call.specs.declared.reply.Reply.TheVariants as replies
 use Rattle.vx_call.specs.Names.{next_context}
 use Rattle.vx_call.specs.Refusals.{unless_refused}
-use Rattle.vx_core_bus.proofs.Frames.{refused_contexts}
+use Rattle.vx_bus_store.proofs.Frames.{refused_contexts}
 use Rattle.vx_hub.proofs.RowNewContext.{makes_context}
 use Rattle.vx_hub.proofs.rows.new_context.new_context.Goals as goal
 

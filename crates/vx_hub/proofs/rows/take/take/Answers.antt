@@ -2,7 +2,7 @@ use Rattle.std.proofs.Common.{ap, sym, ◌∙◌}
 use Rattle.vx_call.specs.Next.{next}
 use Rattle.vx_call.specs.Refusals.{unless_refused}
 use Rattle.vx_call.specs.Rows.{handed_out}
-use Rattle.vx_core_bus.proofs.Frames.{follows_refused}
+use Rattle.vx_bus_store.proofs.Frames.{follows_refused}
 use Rattle.vx_hub.proofs.RowTake.{takes_none}
 use Rattle.vx_hub.proofs.rows.take.take.Goals as goal
 

@@ -1,0 +1,9 @@
+pub mod Selections
+pub mod LiveChoices
+pub mod LostRows
+pub mod MadeReady
+pub mod UnregisterConsumers
+pub mod UnregisterRequests
+pub mod RowRegister
+pub mod RowUnregister
+pub mod RowFlow

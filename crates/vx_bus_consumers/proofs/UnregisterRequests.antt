@@ -1,0 +1,128 @@
+-- The requests that end with a consumer.
+use Rattle.std.proofs.Common.{◌≡◌, ℕ, ◌+◌, List, [], ◌∷◌, ◌++◌, refl, ap, sym, ◌∙◌}
+use Rattle.std.specs.Prelude.{Bool, true, false, not, cond, ◌&&◌, ◌||◌, ◌==◌, map, filter, find, is_some, Option, None, Some}
+use Rattle.std.specs.Option.{option_map, option_or}
+use Rattle.std.proofs.lemmas.Bool.{eq-eqb}
+use Rattle.std.proofs.lemmas.List.Folds.{find-append}
+use Rattle.vx_data.specs.declared.ids.ConsumerId.{ConsumerId}
+use Rattle.vx_data.specs.declared.ids.EntryNo.{EntryNo}
+use Rattle.vx_data.specs.declared.ids.MessageId.{MessageId}
+use Rattle.vx_message.specs.declared.Given.{Given}
+use Rattle.vx_message.specs.declared.Outcome.{Outcome}
+use Rattle.vx_timer.specs.declared.timers.Timer.{Timer}
+use Rattle.vx_request.specs.Stores.{is_request, given_at, reached, is_lost}
+use Rattle.vx_call.specs.declared.call.Call.TheVariants as calls
+use Rattle.vx_call.specs.declared.history.Traced.{Traced}
+use Rattle.vx_data.specs.Ids.{same_message}
+use Rattle.vx_call.specs.Names.{next_entry}
+use Rattle.vx_call.specs.Given.{given}
+use Rattle.vx_call.specs.Requests.{Open, is_lost_with, settles, by_due}
+use Rattle.vx_call.specs.Settled.{Settled, no_handlers, settlements}
+use Rattle.vx_call.specs.Items.{outcome_items, outcome_tasks}
+use Rattle.vx_call.proofs.Each.{Each, weaken, Each-both}
+use Rattle.vx_call.proofs.Apart.{Apart, others_apart}
+use Rattle.vx_call.proofs.Opened.{same_open, same_open-swap, Each-by_due}
+use Rattle.vx_call.proofs.Settlings.{settlement}
+use Rattle.vx_call.proofs.ByDue.{by_due-filter}
+use Rattle.vx_context.specs.Stores.{item_of}
+use Rattle.vx_bus_store.specs.Stores.{row_of, timer_of}
+use Rattle.vx_bus_consumers.specs.Lost.{lost_items, lost_tasks, is_timer_of}
+use Rattle.vx_bus_store.proofs.Images.{filter_mapped}
+
+-- ## Which are lost
+
+-- whether an Unregister settles the request
+abbrev pub ends_with : List Traced → ConsumerId → Open → Bool
+ends_with history id request = settles history (calls.Unregister id) request
+
+lost_with : (history : List Traced) (store : List (ℕ × Given)) (id : ConsumerId) (request : Open) (receiver : Option ConsumerId) → given_at request.id store ≡ given history request.id →
+    (reached id receiver && not (is_some (given_at request.id store))) ≡ is_lost_with history id request receiver
+lost_with history store id request None same = refl
+lost_with history store id request (Some other) same = ap (λ g. (id.0.0 == other.0.0) && not (is_some g)) same
+
+pub lost_same : (history : List Traced) (store : List (ℕ × Given)) (id : ConsumerId) → ((m : MessageId) → given_at m store ≡ given history m) → (request : Open) → is_lost id store (row_of request) ≡ ends_with history id request
+lost_same history store id same request = lost_with history store id request request.receiver (same request.id)
+
+-- ## Their outcomes
+
+pub items_lost : (history : List Traced) (place : ℕ) (requests : List Open) → lost_items (next_entry history) place (map row_of requests) ≡ map item_of (outcome_items place (settlements history no_handlers requests))
+items_lost history place [] = refl
+items_lost history place (request ∷ others) = ap (λ items. lost_items (next_entry history) place (row_of request ∷ []) ++ items) (items_lost history (place + 1) others)
+
+pub tasks_lost : (history : List Traced) (requests : List Open) → lost_tasks (map row_of requests) ≡ outcome_tasks (settlements history no_handlers requests)
+tasks_lost history [] = refl
+tasks_lost history (request ∷ others) = ap (λ tasks. lost_tasks (row_of request ∷ []) ++ tasks) (tasks_lost history others)
+
+-- ## Their timers
+
+abbrev IsOther : Open → Open → Type 0
+IsOther a b = same_open a b ≡ false
+
+none_there : (request : Open) (others : List Open) → Each (IsOther request) others → is_timer_of (map row_of others) (timer_of request) ≡ false
+none_there request [] apart = refl
+none_there request (other ∷ others) apart =
+    ap (λ b. b || is_timer_of (map row_of others) (timer_of request)) (same_open-swap other request ∙ apart.0) ∙ none_there request others apart.1
+
+or_later : (here there : Bool) → there ≡ true → (here || there) ≡ true
+or_later true there h = refl
+or_later false there h = h
+
+one_there : (p : Open → Bool) (requests : List Open) → Each (λ request. p request ≡ true → is_timer_of (map row_of (filter p requests)) (timer_of request) ≡ true) requests
+one_there p [] = tt
+one_there p (request ∷ others) = (
+  λ passes. ap (λ b. is_timer_of (map row_of (cond b (request ∷ filter p others) (filter p others))) (timer_of request)) passes
+      ∙ ap (λ b. b || is_timer_of (map row_of (filter p others)) (timer_of request)) (eq-eqb request.id.0.0 request.id.0.0 refl),
+  weaken (λ other. p other ≡ true → is_timer_of (map row_of (filter p others)) (timer_of other) ≡ true) _ others
+      (λ other found passes.
+      elim (p request) as (λ b. is_timer_of (map row_of (cond b (request ∷ filter p others) (filter p others))) (timer_of other) ≡ true) [
+        | true ↦ or_later (same_open request other) _ (found passes)
+        | false ↦ found passes
+      ])
+      (one_there p others),
+)
+
+-- a timer is that of one that passes the test, where its request does
+timer_there : (p : Open → Bool) (requests : List Open) → Apart same_open requests → Each (λ request. is_timer_of (map row_of (filter p requests)) (timer_of request) ≡ p request) requests
+timer_there p requests apart =
+    Each-both (λ request. p request ≡ true → is_timer_of (map row_of (filter p requests)) (timer_of request) ≡ true)
+    (λ request. p request ≡ false → Each (IsOther request) (filter p requests)) _ requests
+    (λ request passing failing.
+    elim (p request) as (λ b. p request ≡ b → is_timer_of (map row_of (filter p requests)) (timer_of request) ≡ b) [
+      | true ↦ λ passes. passing passes
+      | false ↦ λ fails. none_there request (filter p requests) (failing fails)
+    ] refl)
+    (one_there p requests) (others_apart same_open same_open-swap p requests apart)
+
+pub timers_lost : (p : Open → Bool) (requests : List Open) → Apart same_open requests →
+    filter (λ (timer : Timer). not (is_timer_of (map row_of (filter p requests)) timer)) (map timer_of (by_due requests)) ≡ map timer_of (by_due (filter (λ request. not (p request)) requests))
+timers_lost p requests apart =
+    let Agree : Open → Type 0 = λ request. not (is_timer_of (map row_of (filter p requests)) (timer_of request)) ≡ not (p request) in
+    filter_mapped (λ (timer : Timer). not (is_timer_of (map row_of (filter p requests)) timer)) (λ request. not (p request)) timer_of (by_due requests)
+    (Each-by_due Agree requests (weaken (λ request. is_timer_of (map row_of (filter p requests)) (timer_of request) ≡ p request) Agree requests (λ request same. ap not same) (timer_there p requests apart)))
+    ∙ ap (map timer_of) (sym (by_due-filter (λ request. not (p request)) requests))
+
+-- ## Their ends
+
+abbrev entry_of : Settled → EntryNo
+entry_of settled = settled.at
+
+map_or : (a b : Option Settled) → option_map entry_of (option_or a b) ≡ option_or (option_map entry_of a) (option_map entry_of b)
+map_or None b = refl
+map_or (Some settled) b = refl
+
+found_lost : (history : List Traced) (outcome : Outcome) (id : MessageId) (requests : List Open) →
+    option_map entry_of (find (λ (s : Settled). same_message id s.request) (settlements history outcome requests)) ≡ option_map (λ _. next_entry history) (find (is_request id) (map row_of requests))
+found_lost history outcome id [] = refl
+found_lost history outcome id (request ∷ others) =
+    elim (id.0.0 == request.id.0.0) as (λ b. option_map entry_of (cond b (Some (settlement history outcome request)) (find (λ (s : Settled). same_message id s.request) (settlements history outcome others))) ≡ option_map (λ _. next_entry history) (cond b (Some (row_of request)) (find (is_request id) (map row_of others)))) [
+      | true ↦ refl
+      | false ↦ found_lost history outcome id others
+    ]
+
+pub ends_lost : (history : List Traced) (id : MessageId) (before : List Settled) (requests : List Open) →
+    option_or (option_map entry_of (find (λ (s : Settled). same_message id s.request) before)) (option_map (λ _. next_entry history) (find (is_request id) (map row_of requests)))
+    ≡ option_map entry_of (find (λ (s : Settled). same_message id s.request) (before ++ settlements history no_handlers requests))
+ends_lost history id before requests =
+    ap (option_or (option_map entry_of (find (λ (s : Settled). same_message id s.request) before))) (sym (found_lost history no_handlers id requests))
+    ∙ sym (map_or _ _)
+    ∙ sym (ap (option_map entry_of) (find-append (λ (s : Settled). same_message id s.request) before (settlements history no_handlers requests)))

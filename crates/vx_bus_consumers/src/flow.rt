@@ -1,0 +1,136 @@
+//! Pause, Resume and Fetch.
+ghost use Rattle.std.specs.Prelude.{◌≡◌, ◌+◌, ◌-◌, ◌≤◌, ◌++◌, List, length, filter, take, drop};
+ghost use Rattle.vx_call.specs.declared.call.Call.TheVariants as calls;
+ghost use Rattle.vx_call.specs.declared.history.Traced.{Traced};
+ghost use Rattle.vx_call.specs.Items.{is_for, kind_of};
+ghost use Rattle.vx_context.specs.Stands.{IsNext};
+ghost use Rattle.vx_bus_store.specs.Stands.{StoresStand, Follows, HavePlaces, AreOfOneHistory};
+ghost use Rattle.vx_bus_store.specs.Stores.{message_items};
+
+use vx_bus_refusals::{consumer_refusal, fetch_refusal};
+use vx_bus_store::{Bus, is_for};
+use vx_call::{Reply, Task};
+use vx_context::Contexts;
+use vx_data::{ConsumerId, ContextId, EntryNo, PassNo};
+use vx_message::{Item, ItemKind};
+use vx_timer::Timers;
+
+/// Holds again the messages of a consumer that are ready and were not taken, and makes no more of them ready. It takes
+/// no memory.
+pub fn pause(
+    contexts: &mut Contexts,
+    timers: &Timers,
+    bus: &mut Bus,
+    at: EntryNo,
+    pass: PassNo,
+    consumer: ConsumerId,
+) -> Reply
+    requires places { HavePlaces contexts.old bus.old }
+    requires one { AreOfOneHistory contexts.old timers.now bus.old }
+    ensures follows { (history : List Traced) → StoresStand contexts.old timers.now bus.old history → IsNext at history → Follows contexts.new timers.now bus.new history pass (calls.Pause consumer) result }
+    ensures places { HavePlaces contexts.new bus.new }
+{
+    if let Some(refusal) = consumer_refusal(contexts, bus, pass, consumer) {
+        return Reply::Refused(refusal);
+    }
+    contexts.cancel(consumer);
+    bus.pause(consumer);
+    Reply::Done
+}
+
+/// Makes every held message of a consumer ready. It takes no memory.
+pub fn resume(
+    contexts: &mut Contexts,
+    timers: &Timers,
+    bus: &mut Bus,
+    at: EntryNo,
+    pass: PassNo,
+    consumer: ConsumerId,
+) -> Reply
+    requires places { HavePlaces contexts.old bus.old }
+    requires one { AreOfOneHistory contexts.old timers.now bus.old }
+    ensures follows { (history : List Traced) → StoresStand contexts.old timers.now bus.old history → IsNext at history → Follows contexts.new timers.now bus.new history pass (calls.Resume consumer) result }
+    ensures places { HavePlaces contexts.new bus.new }
+{
+    if let Some(refusal) = consumer_refusal(contexts, bus, pass, consumer) {
+        return Reply::Refused(refusal);
+    }
+    let handler = match bus.handler(consumer) {
+        Some(handler) => handler,
+        None => unreachable!(),
+    };
+    let context = handler.consumer.context;
+    let held = handler.flow.held();
+    bus.resume(consumer);
+    make_ready(contexts, bus, at, consumer, context, held, held);
+    Reply::Done
+}
+
+/// Makes so many more messages of a consumer ready. It takes no memory.
+pub fn fetch(
+    contexts: &mut Contexts,
+    timers: &Timers,
+    bus: &mut Bus,
+    at: EntryNo,
+    pass: PassNo,
+    consumer: ConsumerId,
+    count: u32,
+) -> Reply
+    requires places { HavePlaces contexts.old bus.old }
+    requires one { AreOfOneHistory contexts.old timers.now bus.old }
+    ensures follows { (history : List Traced) → StoresStand contexts.old timers.now bus.old history → IsNext at history → Follows contexts.new timers.now bus.new history pass (calls.Fetch consumer count) result }
+    ensures places { HavePlaces contexts.new bus.new }
+{
+    if let Some(refusal) = fetch_refusal(contexts, bus, pass, consumer, count) {
+        return Reply::Refused(refusal);
+    }
+    let handler = match bus.handler(consumer) {
+        Some(handler) => handler,
+        None => unreachable!(),
+    };
+    let context = handler.consumer.context;
+    let held = handler.flow.held();
+    let freed = handler.flow.freed_by(count);
+    bus.fetch(consumer, count);
+    make_ready(contexts, bus, at, consumer, context, held, freed);
+    Reply::Done
+}
+
+// Makes so many of a consumer's messages ready, of which the last `held` ones were held, at places from 0.
+fn make_ready(
+    contexts: &mut Contexts,
+    bus: &Bus,
+    at: EntryNo,
+    consumer: ConsumerId,
+    context: ContextId,
+    held: u64,
+    count: u64,
+)
+    requires { count ≤ contexts.old.room }
+    ensures items { contexts.new ≡ record contexts.old { waiting = contexts.old.waiting ++ message_items at context 0 (take count (drop (length (filter (is_for consumer) bus.now.tasks) - held) (filter (is_for consumer) bus.now.tasks))); room = contexts.new.room } }
+    ensures room { contexts.old.room ≤ contexts.new.room + count }
+{
+    let ready = bus.message_count(consumer).saturating_sub(held as usize);
+    let messages = bus.tasks().iter().filter(|task| is_for(consumer, task));
+    for (place, task) in messages.skip(ready).take(count as usize).enumerate() {
+        contexts.put(Item {
+            entry: at,
+            place: place as u64,
+            context,
+            kind: kind_of(task),
+        });
+    }
+}
+
+// What kind of task it is.
+fn kind_of(task: &Task) -> ItemKind
+    ensures { result ≡ kind_of task.now }
+{
+    match task {
+        Task::Deliver { consumer, message } => ItemKind::Deliver(*consumer, message.id),
+        Task::Outcome {
+            request,
+            outcome: _,
+        } => ItemKind::Outcome(*request),
+    }
+}

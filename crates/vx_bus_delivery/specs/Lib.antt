@@ -1,0 +1,3 @@
+pub mod Passages
+pub mod Deliveries
+pub mod Ending

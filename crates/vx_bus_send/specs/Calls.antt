@@ -1,0 +1,13 @@
+-- The calls that send a message or an outcome.
+use Rattle.std.specs.Prelude.{Bool, true, false}
+use Rattle.vx_call.specs.declared.call.Call.{Call}
+use Rattle.vx_call.specs.declared.call.Call.TheVariants as calls
+
+abbrev pub is_sending_call : Call → Bool
+is_sending_call (calls.Send address body options) = true
+is_sending_call (calls.Publish address body options) = true
+is_sending_call (calls.Request context address body options timeout) = true
+is_sending_call (calls.Reply message body options) = true
+is_sending_call (calls.Fail message code text) = true
+is_sending_call (calls.ReplyRequest message context body options timeout) = true
+is_sending_call _ = false

@@ -1,0 +1,247 @@
+-- Entries that leave a store: one lemma a store, and one for each part that an entry may leave alone.
+use Rattle.std.proofs.Common.{◌≡◌, ℕ, List, [], ◌∷◌, ◌++◌, refl, ap, sym, ◌∙◌}
+use Rattle.std.specs.Prelude.{Bool, true, false, not, ◌&&◌, filter, find, map}
+use Rattle.std.specs.List.{count_by}
+use Rattle.std.specs.Option.{option_map}
+use Rattle.std.specs.Str.{bytes_eq}
+use Rattle.vx_data.specs.declared.ids.PassNo.{PassNo}
+use Rattle.vx_data.specs.declared.ids.MessageId.{MessageId}
+use Rattle.vx_data.specs.Ids.{same_message}
+use Rattle.vx_message.specs.declared.Held.{Held}
+use Rattle.vx_message.specs.declared.Given.{Given}
+use Rattle.vx_message.specs.declared.OutsideContext.{OutsideContext}
+use Rattle.vx_message.specs.declared.rules.Codec.{Codec}
+use Rattle.vx_message.specs.declared.rules.Rule.{Rule}
+use Rattle.vx_timer.specs.declared.timers.Timer.{Timer}
+use Rattle.vx_consumer.specs.Flows.{Counted}
+use Rattle.vx_consumer.specs.Mailboxes.{numbers_of}
+use Rattle.vx_call.specs.declared.call.Call.{Call}
+use Rattle.vx_call.specs.declared.reply.Refusal.{Refusal}
+use Rattle.vx_call.specs.declared.reply.Reply.TheVariants as replies
+use Rattle.vx_call.specs.declared.reply.Task.{Task}
+use Rattle.vx_call.specs.declared.history.Consumer.{Consumer}
+use Rattle.vx_call.specs.declared.history.Traced.{Traced}
+use Rattle.vx_call.specs.History.{made_by, ended_by, is_accepted, plain_entry}
+use Rattle.vx_call.specs.Contexts.{context_kind}
+use Rattle.vx_call.specs.Consumers.{consumer_kind, consumers, handlers, is_at}
+use Rattle.vx_call.specs.Mailboxes.{mailbox}
+use Rattle.vx_call.specs.Codecs.{codec_kind, codecs}
+use Rattle.vx_call.specs.Rules.{rule_kind, rules}
+use Rattle.vx_call.specs.Choices.{choice_kind, choices, is_empty}
+use Rattle.vx_call.specs.Given.{given_kind, given}
+use Rattle.vx_call.specs.Requests.{Open, open_kind, unsettled, by_due}
+use Rattle.vx_call.specs.Settled.{Settled, settled_kind, settled}
+use Rattle.vx_call.specs.Items.{Waiting, item_kind, waiting, task_kind, untaken}
+use Rattle.vx_call.specs.Held.{held_kind}
+use Rattle.vx_call.specs.Rows.{ids_of}
+use Rattle.vx_call.specs.Machine.{row}
+use Rattle.vx_call.proofs.Lasting.{lasting_same, and_false}
+use Rattle.vx_call.proofs.Each.{weaken}
+use Rattle.vx_call.proofs.Consumers.{IsLive, consumers_live}
+use Rattle.vx_call.proofs.Mailboxes.{mailbox_same}
+use Rattle.vx_context.specs.Stores.{ContextStore, item_of}
+use Rattle.vx_context.specs.Stands.{ContextsStand}
+use Rattle.vx_bus_store.specs.declared.bus.Handler.{Handler}
+use Rattle.vx_bus_store.specs.Stores.{BusStore, handler_of, row_of, timer_of}
+use Rattle.vx_bus_store.specs.Stands.{BusStands, TimersStand, StoresStand, Follows}
+use Rattle.vx_bus_store.proofs.Images.{map_each}
+
+-- ## Waiting tasks
+
+-- an entry that makes no task ready, and takes, holds and ends none that wait
+pub record LeavesWaiting (history : List Traced) (new : Traced) : Type 0 where
+  pub none : made_by item_kind history new ≡ []
+  pub kept : (item : Waiting) → ended_by item_kind history new item ≡ false
+
+pub waiting_left : (history : List Traced) (new : Traced) → LeavesWaiting history new → waiting (history ++ new ∷ []) ≡ waiting history
+waiting_left history new leaves = lasting_same item_kind history new leaves.none leaves.kept
+
+-- ## The contexts
+
+pub never_ended : (history : List Traced) (new : Traced) (context : OutsideContext) → ended_by context_kind history new context ≡ false
+never_ended history new context = and_false (is_accepted new.entry.reply)
+
+-- an entry that makes no context, hands out no task, finishes none and leaves those that wait
+pub record LeavesContexts (history : List Traced) (new : Traced) : Type 0 where
+  pub contexts : made_by context_kind history new ≡ []
+  pub held : made_by held_kind history new ≡ []
+  pub finished : (held : Held) → ended_by held_kind history new held ≡ false
+  pub waiting : LeavesWaiting history new
+
+pub contexts_left : (store : ContextStore) (history : List Traced) (new : Traced) → LeavesContexts history new → ContextsStand store history → ContextsStand store (history ++ new ∷ [])
+contexts_left store history new leaves stands = record {
+  made = stands.made ∙ sym (lasting_same context_kind history new leaves.contexts (never_ended history new));
+  held = stands.held ∙ sym (lasting_same held_kind history new leaves.held leaves.finished);
+  waiting = stands.waiting ∙ ap (map item_of) (sym (waiting_left history new leaves.waiting));
+}
+
+-- ## The timers
+
+-- an entry that opens no request and settles none
+pub record LeavesRequests (history : List Traced) (new : Traced) : Type 0 where
+  pub opened : made_by open_kind history new ≡ []
+  pub settled : (request : Open) → ended_by open_kind history new request ≡ false
+
+pub requests_left : (history : List Traced) (new : Traced) → LeavesRequests history new → unsettled (history ++ new ∷ []) ≡ unsettled history
+requests_left history new leaves = lasting_same open_kind history new leaves.opened leaves.settled
+
+pub timers_left : (timers : List Timer) (history : List Traced) (new : Traced) → LeavesRequests history new → TimersStand timers history → TimersStand timers (history ++ new ∷ [])
+timers_left timers history new leaves stands = stands ∙ ap (λ rs. map timer_of (by_due rs)) (sym (requests_left history new leaves))
+
+-- ## The consumers, and their mailboxes in numbers
+
+-- an entry that registers no consumer and ends none
+pub record LeavesConsumers (history : List Traced) (new : Traced) : Type 0 where
+  pub registered : made_by consumer_kind history new ≡ []
+  pub kept : (consumer : Consumer) → ended_by consumer_kind history new consumer ≡ false
+
+pub consumers_left : (history : List Traced) (new : Traced) → LeavesConsumers history new → consumers (history ++ new ∷ []) ≡ consumers history
+consumers_left history new leaves = lasting_same consumer_kind history new leaves.registered leaves.kept
+
+-- an entry that leaves the numbers of each live consumer's mailbox
+abbrev pub LeavesNumbers : List Traced → Traced → Type 0
+LeavesNumbers history new = (consumer : Consumer) → IsLive history consumer → numbers_of (mailbox (history ++ new ∷ []) consumer) ≡ numbers_of (mailbox history consumer)
+
+-- ... as one does that moves no mailbox
+pub numbers_left : (history : List Traced) (new : Traced) → ((consumer : Consumer) → mailbox (history ++ new ∷ []) consumer ≡ mailbox history consumer) → LeavesNumbers history new
+numbers_left history new same consumer is_live = ap numbers_of (same consumer)
+
+-- the handlers of live consumers, where each is another function of its numbers
+pub handlers_by : (history : List Traced) (after : Consumer → Handler) → ((consumer : Consumer) → IsLive history consumer → after consumer ≡ handler_of history consumer) →
+    map after (consumers history) ≡ map (handler_of history) (consumers history)
+handlers_by history after same = map_each after (handler_of history) (consumers history) (weaken (IsLive history) (λ c. after c ≡ handler_of history c) (consumers history) same (consumers_live history))
+
+pub handlers_left : (history : List Traced) (new : Traced) → LeavesConsumers history new → LeavesNumbers history new →
+    map (handler_of (history ++ new ∷ [])) (consumers (history ++ new ∷ [])) ≡ map (handler_of history) (consumers history)
+handlers_left history new leaves numbers =
+    ap (map (handler_of (history ++ new ∷ []))) (consumers_left history new leaves)
+    ∙ handlers_by history (handler_of (history ++ new ∷ []))
+    (λ consumer is_live. ap (λ (flow : Counted). (let h : Handler = record { consumer = consumer; flow = flow } in h)) (numbers consumer is_live))
+
+pub rings_left : (history : List Traced) (new : Traced) (address : List ℕ) → LeavesConsumers history new → ids_of (handlers (history ++ new ∷ []) address) ≡ ids_of (handlers history address)
+rings_left history new address leaves = ap (λ cs. ids_of (filter (is_at address) cs)) (consumers_left history new leaves)
+
+-- ## Choices
+
+not_both : (a b : Bool) → (a && (not b && b)) ≡ false
+not_both true true = refl
+not_both true false = refl
+not_both false b = refl
+
+-- where the consumers stay, no address loses its last one
+pub none_emptied : (history : List Traced) (new : Traced) → consumers (history ++ new ∷ []) ≡ consumers history → (address : List ℕ) → ended_by choice_kind history new address ≡ false
+none_emptied history new same address =
+    ap (λ cs. is_accepted new.entry.reply && (not (is_empty (handlers history address)) && is_empty (filter (is_at address) cs))) same
+    ∙ not_both (is_accepted new.entry.reply) (is_empty (handlers history address))
+
+pub choices_left : (history : List Traced) (new : Traced) (address : List ℕ) → LeavesConsumers history new → made_by choice_kind history new ≡ [] → choices (history ++ new ∷ []) address ≡ choices history address
+choices_left history new address leaves none =
+    ap (count_by (bytes_eq address)) (lasting_same choice_kind history new none (none_emptied history new (consumers_left history new leaves)))
+
+-- ## Tasks that were not taken
+
+-- an entry that makes no task, and takes and ends none
+pub record LeavesTasks (history : List Traced) (new : Traced) : Type 0 where
+  pub made : made_by task_kind history new ≡ []
+  pub kept : (task : Task) → ended_by task_kind history new task ≡ false
+
+pub tasks_left : (history : List Traced) (new : Traced) → LeavesTasks history new → untaken (history ++ new ∷ []) ≡ untaken history
+tasks_left history new leaves = lasting_same task_kind history new leaves.made leaves.kept
+
+-- ## How requests ended, and what was given out
+
+pub never_settled : (history : List Traced) (new : Traced) (settled : Settled) → ended_by settled_kind history new settled ≡ false
+never_settled history new settled = and_false (is_accepted new.entry.reply)
+
+pub ended_left : (history : List Traced) (new : Traced) (id : MessageId) → made_by settled_kind history new ≡ [] → settled (history ++ new ∷ []) id ≡ settled history id
+ended_left history new id none = ap (find (λ (s : Settled). same_message id s.request)) (lasting_same settled_kind history new none (never_settled history new))
+
+pub never_taken_back : (history : List Traced) (new : Traced) (given : Given) → ended_by given_kind history new given ≡ false
+never_taken_back history new given = and_false (is_accepted new.entry.reply)
+
+pub given_left : (history : List Traced) (new : Traced) (id : MessageId) → made_by given_kind history new ≡ [] → given (history ++ new ∷ []) id ≡ given history id
+given_left history new id none = ap (find (λ (g : Given). same_message id g.id)) (lasting_same given_kind history new none (never_taken_back history new))
+
+-- ## Codecs and rules
+
+-- an entry that adds no codec and removes none
+pub record LeavesCodecs (history : List Traced) (new : Traced) : Type 0 where
+  pub added : made_by codec_kind history new ≡ []
+  pub kept : (codec : Codec) → ended_by codec_kind history new codec ≡ false
+
+pub codecs_left : (history : List Traced) (new : Traced) → LeavesCodecs history new → codecs (history ++ new ∷ []) ≡ codecs history
+codecs_left history new leaves = lasting_same codec_kind history new leaves.added leaves.kept
+
+-- an entry that adds no rule and removes none
+pub record LeavesRules (history : List Traced) (new : Traced) : Type 0 where
+  pub added : made_by rule_kind history new ≡ []
+  pub kept : (rule : Rule) → ended_by rule_kind history new rule ≡ false
+
+pub rules_left : (history : List Traced) (new : Traced) → LeavesRules history new → rules (history ++ new ∷ []) ≡ rules history
+rules_left history new leaves = lasting_same rule_kind history new leaves.added leaves.kept
+
+-- ## The bus
+
+-- an entry that leaves all that the bus keeps
+pub record LeavesBus (history : List Traced) (new : Traced) : Type 0 where
+  pub consumers : LeavesConsumers history new
+  pub numbers : LeavesNumbers history new
+  pub choices : made_by choice_kind history new ≡ []
+  pub tasks : LeavesTasks history new
+  pub requests : LeavesRequests history new
+  pub settled : made_by settled_kind history new ≡ []
+  pub given : made_by given_kind history new ≡ []
+  pub codecs : LeavesCodecs history new
+  pub rules : LeavesRules history new
+
+pub bus_left : (store : BusStore) (history : List Traced) (new : Traced) → LeavesBus history new → BusStands store history → BusStands store (history ++ new ∷ [])
+bus_left store history new leaves stands = record {
+  consumers = stands.consumers ∙ sym (handlers_left history new leaves.consumers leaves.numbers);
+  rings = λ address. stands.rings address ∙ sym (rings_left history new address leaves.consumers);
+  choices = λ address. stands.choices address ∙ sym (choices_left history new address leaves.consumers leaves.choices);
+  tasks = stands.tasks ∙ sym (tasks_left history new leaves.tasks);
+  opened = stands.opened ∙ ap (map row_of) (sym (requests_left history new leaves.requests));
+  ended = λ id. stands.ended id ∙ ap (option_map (λ (s : Settled). s.at)) (sym (ended_left history new id leaves.settled));
+  given = λ id. stands.given id ∙ sym (given_left history new id leaves.given);
+  codecs = stands.codecs ∙ sym (codecs_left history new leaves.codecs);
+  rules = stands.rules ∙ sym (rules_left history new leaves.rules);
+}
+
+-- ## Refusals
+
+-- a refused call leaves the contexts
+pub refused_contexts : (store : ContextStore) (history : List Traced) (pass : PassNo) (call : Call) (refusal : Refusal) → ContextsStand store history →
+    ContextsStand store (history ++ plain_entry pass call (replies.Refused refusal) ∷ [])
+refused_contexts store history pass call refusal stands = contexts_left store history (plain_entry pass call (replies.Refused refusal))
+    (record { contexts = refl; held = refl; finished = λ h. refl; waiting = record { none = refl; kept = λ w. refl } }) stands
+
+-- ... and the bus
+pub refused_bus : (history : List Traced) (pass : PassNo) (call : Call) (refusal : Refusal) → LeavesBus history (plain_entry pass call (replies.Refused refusal))
+refused_bus history pass call refusal = record {
+  consumers = record { registered = refl; kept = λ c. refl };
+  numbers = numbers_left history (plain_entry pass call (replies.Refused refusal)) (λ consumer. mailbox_same history (plain_entry pass call (replies.Refused refusal)) consumer refl);
+  choices = refl;
+  tasks = record { made = refl; kept = λ t. refl };
+  requests = record { opened = refl; settled = λ r. refl };
+  settled = refl;
+  given = refl;
+  codecs = record { added = refl; kept = λ c. refl };
+  rules = record { added = refl; kept = λ r. refl };
+}
+
+-- a refused call leaves all stores
+pub refused_stores : (contexts : ContextStore) (timers : List Timer) (bus : BusStore) (history : List Traced) (pass : PassNo) (call : Call) (refusal : Refusal) → StoresStand contexts timers bus history →
+    StoresStand contexts timers bus (history ++ plain_entry pass call (replies.Refused refusal) ∷ [])
+refused_stores contexts timers bus history pass call refusal stands =
+    let entry = plain_entry pass call (replies.Refused refusal) in
+    record {
+      contexts = refused_contexts contexts history pass call refusal stands.contexts;
+      timers = timers_left timers history entry (record { opened = refl; settled = λ r. refl }) stands.timers;
+      bus = bus_left bus history entry (refused_bus history pass call refusal) stands.bus;
+    }
+
+-- a refused call follows, where the refusal is that of its row
+pub follows_refused : (contexts : ContextStore) (timers : List Timer) (bus : BusStore) (history : List Traced) (pass : PassNo) (call : Call) (refusal : Refusal) → StoresStand contexts timers bus history →
+    replies.Refused refusal ≡ row history pass call → Follows contexts timers bus history pass call (replies.Refused refusal)
+follows_refused contexts timers bus history pass call refusal stands answered =
+    record { answered = answered; stores = refused_stores contexts timers bus history pass call refusal stands }

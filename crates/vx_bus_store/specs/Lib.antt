@@ -1,0 +1,4 @@
+pub mod Stores
+pub mod Stands
+pub mod FlowChanges
+pub mod Limits

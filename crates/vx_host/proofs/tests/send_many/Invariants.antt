@@ -1,6 +1,0 @@
-use Rattle.std.proofs.Common.{◌≡◌}
-use Rattle.vx_turn.specs.Passes.{place_of}
-use Rattle.vx_host.proofs.tests.send_many.Given as goal
-
-abbrev pub invariant-loop-number : goal.invariant-loop-number
-invariant-loop-number g l = place_of l.pass ≡ place_of l.initial.pass

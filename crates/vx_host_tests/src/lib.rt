@@ -1,0 +1,5 @@
+//! Tests of the host, with threads: each public call once.
+#![tactic(auto)]
+
+#[cfg(test)]
+mod tests;

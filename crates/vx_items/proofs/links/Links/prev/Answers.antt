@@ -1,0 +1,14 @@
+use Rattle.std.proofs.Common.{◌∙◌}
+use Rattle.vx_items.proofs.Linked.{prev_is, place_of, last_stands, before_in_lists}
+use Rattle.vx_items.proofs.links.Links.prev.Goals as goal
+
+pub returns-clause-prev : goal.returns-clause-prev
+returns-clause-prev c list before after split =
+    c.item_of.ensures
+    ∙ prev_is c.self.inside.links.items c.self.inside.ends.items _ c.args.item c.index.result.now c.self.invariant
+    (c.self.invariant.within c.args.item (rw (← c.self.view_is) at c.requires)) c.index.ensures list before after (rw (← c.self.view_is) at split)
+
+pub returns-clause-there : goal.returns-clause-there
+returns-clause-there c =
+    let place = place_of c.args.item c.args.self.now.lists c.requires in
+    before_in_lists c.args.item c.args.self.now.lists place _ (last_stands _ _ (returns-clause-prev c place.list place.front place.back place.is))

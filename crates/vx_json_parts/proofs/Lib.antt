@@ -1,0 +1,4 @@
+pub mod Compacting
+pub mod PartSteps
+pub mod ReadParts
+pub mod TakeParts

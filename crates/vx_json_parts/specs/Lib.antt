@@ -1,0 +1,5 @@
+pub mod Compact
+pub mod Forms
+pub mod Parts
+pub mod Reading
+pub mod Seen

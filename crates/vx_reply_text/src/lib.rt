@@ -1,0 +1,8 @@
+//! The text of replies.
+#![tactic(auto)]
+
+mod reply;
+mod text;
+
+pub use reply::write_reply;
+pub use text::append;

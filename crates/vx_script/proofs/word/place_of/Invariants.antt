@@ -1,6 +1,0 @@
-use Rattle.std.proofs.Common.{◌≡◌, ◌+◌, drop}
-use Rattle.vx_script.specs.Reading.{place_of}
-use Rattle.vx_script.proofs.word.place_of.Given as goal
-
-abbrev pub invariant-loop-i : goal.invariant-loop-i
-invariant-loop-i l = l.i + place_of l.letter (drop l.i l.bytes) ≡ place_of l.letter l.bytes
