@@ -2,9 +2,11 @@
 #![tactic(auto)]
 
 mod frame;
+mod kind;
 mod rules;
 
 pub use frame::{FrameMessage, InFrame, OutFrame, Permits};
+pub use kind::KindSpec;
 pub use rules::{Codec, CodecForm, Condition, MAX_ADDED_BYTES, MAX_RULES, Rule, Side, Verdict};
 use std::alloc::Global;
 use vx_data::{Body, ConsumerId, ContextId, EntryNo, Headers, MessageId, PassNo, Text};

@@ -1,0 +1,5 @@
+pub mod Fields
+pub mod Files
+pub mod Kinds
+pub mod Outlines
+pub mod Verdicts
