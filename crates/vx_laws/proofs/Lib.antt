@@ -2,12 +2,12 @@ pub mod Splits
 pub mod Handed
 pub mod Gone
 pub mod Made
-pub mod Taken
 pub mod Agains
 pub mod Origins
 pub mod Deliveries
 pub mod Outcomes
 pub mod Ended
+pub mod Taken
 pub mod Givings
 pub mod Nobody
 pub mod Lost

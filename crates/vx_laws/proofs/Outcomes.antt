@@ -1,28 +1,24 @@
 -- An outcome is handed out once, to the context that asked.
 use Rattle.std.proofs.Common.{◌≡◌, ℕ, List, [], ◌∷◌, ◌++◌, refl, ap, sym, ◌∙◌, subst, append_assoc, arith, inl, inr}
-use Rattle.std.specs.Prelude.{true, false, not, ◌&&◌, ◌==◌, Option, None, Some}
-use Rattle.std.proofs.lemmas.Bool.{cases_lt, and_parts, eq-eqb, eqb-true}
+use Rattle.std.specs.Prelude.{true, false, not, ◌&&◌, ◌==◌, Some}
+use Rattle.std.proofs.lemmas.Bool.{cases_lt, and_parts, eq-eqb}
 use Rattle.std.proofs.lemmas.List.{append-nil}
 use Rattle.vx_data.specs.declared.ids.ContextId.{ContextId}
 use Rattle.vx_data.specs.declared.ids.MessageId.{MessageId}
-use Rattle.vx_data.specs.declared.ids.PoolId.{PoolId}
-use Rattle.vx_message.specs.declared.Context.{Context}
-use Rattle.vx_message.specs.declared.Mode.TheVariants as modes
-use Rattle.vx_message.specs.Lanes.{same_lane}
 use Rattle.vx_message.specs.declared.Lane.{Lane}
 use Rattle.vx_message.specs.declared.Lane.TheVariants as lanes
 use Rattle.vx_message.specs.declared.Outcome.{Outcome}
 use Rattle.vx_call.specs.declared.reply.Task.TheVariants as tasks
 use Rattle.vx_call.specs.declared.history.Traced.{Traced}
-use Rattle.vx_call.specs.Contexts.{context_at}
-use Rattle.vx_call.specs.Given.{asker, context_of, mode_of}
+use Rattle.vx_call.specs.Given.{asker, context_of}
 use Rattle.vx_call.specs.Items.{Waiting, waiting}
-use Rattle.vx_call.specs.Next.{is_lane_of, is_on, may_run, is_full}
+use Rattle.vx_call.specs.Held.{runs}
+use Rattle.vx_call.specs.Next.{is_on}
 use Rattle.vx_call.specs.Machine.{IsLegal}
 use Rattle.vx_call.proofs.Each.{Each-find, by_entries}
 use Rattle.vx_call.proofs.Found.{find_passes}
-use Rattle.vx_call.proofs.Contexts.{same_context-true, context_at_named, keeps_context_at}
-use Rattle.vx_call.proofs.Opened.{keeps_known_asker}
+use Rattle.vx_call.proofs.Consumers.{same_context-true}
+use Rattle.vx_call.proofs.Opened.{keeps_asker}
 use Rattle.vx_call.proofs.Owners.{waiting_owned}
 use Rattle.vx_laws.specs.Entries.{TakesAt}
 use Rattle.vx_laws.specs.Outcomes.{HandsOutOnce, HandsToAsker}
@@ -34,7 +30,7 @@ use Rattle.vx_laws.proofs.Gone.{takes_apart}
 not_twice : (history : List Traced) (i j : ℕ) (lane other_lane : Lane) (request : MessageId) (outcome other : Outcome) → IsLegal history →
     TakesAt history i lane (tasks.Outcome request outcome) → TakesAt history j other_lane (tasks.Outcome request other) → (i ≡ j → ⊥) → ⊥
 not_twice history i j lane other_lane request outcome other legal one two apart =
-    let no : (request.0.0 == request.0.0) ≡ false = takes_apart history i j lane other_lane (tasks.Outcome request outcome) (tasks.Outcome request other) legal one two refl refl apart in
+    let no : (request.0.0 == request.0.0) ≡ false = takes_apart history i j lane other_lane (tasks.Outcome request outcome) (tasks.Outcome request other) legal one two apart in
     let yes : (request.0.0 == request.0.0) ≡ true = eq-eqb request.0.0 request.0.0 refl in
     cc
 
@@ -48,52 +44,27 @@ handed_out_once history legal = λ i j lane other_lane request outcome other one
 
 -- ## To the asker
 
-same_lane-true : (a b : Lane) → same_lane a b ≡ true → a ≡ b
-same_lane-true (lanes.Loop loop) (lanes.Loop other) same = ap (λ n. lanes.Loop n) (eqb-true loop other same)
-same_lane-true lanes.Pool lanes.Pool same = refl
-same_lane-true (lanes.Named pool) (lanes.Named other) same =
-    let by_number : ℕ → PoolId = λ n. record { 0 = record { 0 = n } } in
-    ap (λ n. lanes.Named (by_number n)) (eqb-true pool.0.0 other.0.0 same)
-same_lane-true (lanes.Own context) (lanes.Own other) same = ap (λ c. lanes.Own c) (same_context-true context other same)
-same_lane-true _ _ same = absurd cc
-
--- the lane of a context's handlers
-context_lane : (lane : Lane) (o : Option Context) → is_lane_of lane o modes.Handler ≡ true → (context : Context) × (o ≡ Some context) × (lane ≡ context.lane)
-context_lane lane None on = absurd cc
-context_lane lane (Some context) on = (context, refl, same_lane-true lane context.lane on)
+own_lane : (lane : Lane) (item : Waiting) → is_on lane item ≡ true → lane ≡ lanes.Own item.context
+own_lane (lanes.Own context) item on = ap (λ (c : ContextId). lanes.Own c) (same_context-true context item.context on)
 
 -- an asker stays
-pub asker_on : (history after : List Traced) (request : MessageId) (context : ContextId) → asker history request ≡ Some context → asker (history ++ after) request ≡ Some context
+asker_on : (history after : List Traced) (request : MessageId) (context : ContextId) → asker history request ≡ Some context → asker (history ++ after) request ≡ Some context
 asker_on history after request context known =
     let P : List Traced → Type 0 = λ h. asker h request ≡ Some context in
     by_entries (λ later. asker (history ++ later) request ≡ Some context) (subst P (sym (append-nil history)) known)
-    (λ later new before. subst P (append_assoc history later (new ∷ [])) (keeps_known_asker (history ++ later) new request context before)) after
-
--- ... and so does a context
-context_on : (history after : List Traced) (id : ContextId) (context : Context) → context_at history id ≡ Some context → context_at (history ++ after) id ≡ Some context
-context_on history after id context found =
-    let P : List Traced → Type 0 = λ h. context_at h id ≡ Some context in
-    by_entries (λ later. context_at (history ++ later) id ≡ Some context) (subst P (sym (append-nil history)) found)
-    (λ later new before. subst P (append_assoc history later (new ∷ [])) (keeps_context_at (history ++ later) new id context before)) after
+    (λ later new before. subst P (append_assoc history later (new ∷ [])) (keeps_asker (history ++ later) new request context before)) after
 
 asked : (history : List Traced) (i : ℕ) (lane : Lane) (request : MessageId) (outcome : Outcome) → Handed history i lane (tasks.Outcome request outcome) →
-    (context : Context) × (asker history request ≡ Some context.id) × (context_at history context.id ≡ Some context) × (lane ≡ context.lane)
+    (context : ContextId) × (asker history request ≡ Some context) × (lane ≡ lanes.Own context)
 asked history i lane request outcome take =
     let before : List Traced = take.before in
-    let rest : List Traced = take.new ∷ take.after in
     let item : Waiting = take.item in
     let owned : context_of before item.task ≡ Some item.context = Each-find (λ x. context_of before x.task ≡ Some x.context) _ (waiting before) item (waiting_owned before) take.found in
     let known : asker before request ≡ Some item.context = sym (ap (context_of before) take.is_task) ∙ owned in
-    let may = λ (x : Waiting). is_on before lane x && may_run before x (mode_of before x.task) in
-    let passes = and_parts (not (is_full before lane)) (may item) (find_passes (λ (x : Waiting). not (is_full before lane) && may x) (waiting before) item take.found) in
-    let on = and_parts (is_on before lane item) (may_run before item (mode_of before item.task)) passes.1 in
-    let its = context_lane lane (context_at before item.context) (sym (ap (λ task. is_lane_of lane (context_at before item.context) (mode_of before task)) take.is_task) ∙ on.0) in
-    let context : Context = its.0 in
-    let same : item.context ≡ context.id = context_at_named before item.context context its.1 in (
-      context,
-      ap (λ (h : List Traced). asker h request) take.parts ∙ asker_on before rest request context.id (known ∙ ap (λ (c : ContextId). Some c) same),
-      ap (λ (h : List Traced). context_at h context.id) take.parts ∙ context_on before rest context.id context (sym (ap (context_at before) same) ∙ its.1),
-      its.2,
+    let passes = find_passes (λ (x : Waiting). is_on lane x && not (runs before x.context)) (waiting before) item take.found in (
+      item.context,
+      ap (λ (h : List Traced). asker h request) take.parts ∙ asker_on before (take.new ∷ take.after) request item.context known,
+      own_lane lane item (and_parts (is_on lane item) (not (runs before item.context)) passes).0,
     )
 
 pub goes_to_asker : (history : List Traced) → IsLegal history → HandsToAsker history

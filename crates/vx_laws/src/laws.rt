@@ -7,7 +7,7 @@ ghost use Rattle.vx_laws.specs.Demand.{TakesAsFetched};
 ghost use Rattle.vx_laws.specs.Leaving.{TakesNothingOnceEnded};
 ghost use Rattle.vx_laws.specs.Order.{TakesInOrder};
 ghost use Rattle.vx_laws.specs.Outcomes.{EndsRequestsOnce};
-ghost use Rattle.vx_laws.specs.Overlap.{HandlersNeverOverlap, LoopsNeverOverlap};
+ghost use Rattle.vx_laws.specs.Overlap.{HandlersNeverOverlap};
 ghost use Rattle.vx_laws.specs.Turns.{TakesTurns};
 
 /// A message is taken once, or where it was published, once for each consumer.
@@ -46,9 +46,4 @@ pub fn ended_consumers_take_nothing()
 /// Where two handlers of one context begin, the one that began first has ended in between.
 pub fn handlers_never_overlap()
     ensures { (history : List Traced) → IsLegal history → HandlersNeverOverlap history }
-{}
-
-/// Where two tasks of one event loop begin, the one that began first has ended in between.
-pub fn loops_never_overlap()
-    ensures { (history : List Traced) → IsLegal history → LoopsNeverOverlap history }
 {}

@@ -4,7 +4,7 @@
 mod laws;
 
 pub use laws::{
-    ended_consumers_take_nothing, handlers_never_overlap, handlers_take_turns, loops_never_overlap,
+    ended_consumers_take_nothing, handlers_never_overlap, handlers_take_turns,
     messages_are_delivered_once, messages_are_taken_as_fetched, messages_are_taken_in_order,
     requests_end_once,
 };

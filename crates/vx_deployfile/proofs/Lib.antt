@@ -1,4 +1,0 @@
-pub mod Cuts
-pub mod Lists
-pub mod Outlines
-pub mod Reading
