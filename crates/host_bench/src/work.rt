@@ -1,5 +1,6 @@
 //! What is measured: a message is sent to a consumer and taken, and its task ends. These are three calls.
 ghost use Rattle.std.specs.Prelude.{◌≡◌, true};
+ghost use Rattle.vx_call.specs.Built.{is_built};
 ghost use Rattle.vx_call.specs.Plain.{is_plain};
 ghost use Rattle.vx_turn.specs.Passes.{place, place_of};
 
@@ -18,7 +19,8 @@ pub const MESSAGES: u64 = 100_000;
 const PASS: PassNo = PassNo(0);
 
 fn register(context: ContextId, address: &'static str) -> Call
-    ensures { is_plain result ≡ true }
+    ensures plain { is_plain result ≡ true }
+    ensures built { is_built result ≡ true }
 {
     Call::Register {
         context,
@@ -28,7 +30,8 @@ fn register(context: ContextId, address: &'static str) -> Call
 }
 
 fn send(alloc: Global, address: &'static str) -> Call
-    ensures { is_plain result ≡ true }
+    ensures plain { is_plain result ≡ true }
+    ensures built { is_built result ≡ true }
 {
     Call::Send {
         address: Text::constant(address),
@@ -99,6 +102,7 @@ fn context<R: Wait>(rt: &R, host: &Host, pass: Pass) -> (Pass, Option<ContextId>
 fn make<R: Wait>(rt: &R, host: &Host, pass: Pass, call: Call) -> (Pass, bool)
     requires place { place_of pass ≡ place host.now.shared }
     requires plain { is_plain call ≡ true }
+    requires built { is_built call ≡ true }
     ensures { place_of result.0 ≡ place_of pass }
 {
     let made = host.apply(rt, pass, call);

@@ -4,16 +4,24 @@ use Rattle.std.specs.Prelude.{Bool, true, false, not, ◌&&◌, cond, filter}
 use Rattle.std.specs.Str.{bytes_eq}
 use Rattle.std.proofs.lemmas.List.Sums.{length-filter}
 use Rattle.std.proofs.lemmas.Slice.Eq.{bytes_eq-Decides}
+use Rattle.vx_data.specs.declared.ids.ConnId.{ConnId}
 use Rattle.vx_data.specs.declared.ids.ConsumerId.{ConsumerId}
+use Rattle.vx_message.specs.declared.frame.InFrame.{InFrame}
 use Rattle.vx_call.specs.declared.call.Call.{Call}
 use Rattle.vx_call.specs.declared.call.Call.TheVariants as calls
 use Rattle.vx_call.specs.declared.history.Consumer.{Consumer}
+use Rattle.vx_call.specs.declared.history.Deed.{Deed}
+use Rattle.vx_call.specs.declared.history.Deed.TheVariants as deeds
 use Rattle.vx_call.specs.declared.history.Traced.{Traced}
 use Rattle.vx_call.specs.History.{is_accepted, lasting}
-use Rattle.vx_call.specs.Consumers.{consumer_kind, consumer_made, ends, consumers, handlers, is_at}
-use Rattle.vx_call.specs.Choices.{is_empty, choice_kind, choice_made, chosen_at, choices}
-use Rattle.vx_call.proofs.Lasting.{lasting_same, and_false}
+use Rattle.vx_call.specs.Built.{is_built, AreBuilt}
+use Rattle.vx_call.specs.Registered.{consumer_made}
+use Rattle.vx_call.specs.Consumers.{consumer_kind, ends_by_name, ends, consumers, handlers, is_at}
+use Rattle.vx_call.specs.Choices.{is_empty, choice_kind, choice_by, choice_made, chosen_at, choices}
+use Rattle.vx_call.proofs.Lasting.{lasting_same}
 use Rattle.vx_call.proofs.Each.{Each, weaken, accepted, lasting_each}
+use Rattle.vx_call.proofs.Built.{built_front, built_last}
+use Rattle.vx_bus_store.proofs.Frames.{consumer_kept}
 
 -- some handler is at the address
 abbrev pub HasHandlers : List Traced → List ℕ → Type 0
@@ -32,8 +40,8 @@ nothing_made false = refl
 refused_consumers : (history : List Traced) (new : Traced) → is_accepted new.entry.reply ≡ false → consumers (history ++ new ∷ []) ≡ consumers history
 refused_consumers history new refused =
     lasting_same consumer_kind history new
-    (ap (λ b. cond b (consumer_made history new.entry.call) []) refused)
-    (λ consumer. ap (λ b. b && ends history new.entry.call consumer.id) refused)
+    (ap (λ b. cond b (consumer_made history new.entry.call new.mark.deed) []) refused)
+    (λ consumer. ap (λ b. b && ends history new.entry.pass new.entry.call new.mark consumer) refused)
 
 keeps_live : (history : List Traced) (new : Traced) (address : List ℕ) →
     (is_accepted new.entry.reply && (not (is_empty (handlers history address)) && is_empty (handlers (history ++ new ∷ []) address))) ≡ false → HasHandlers history address → HasHandlers (history ++ new ∷ []) address
@@ -45,30 +53,48 @@ keeps_live history new address stays live =
     ] refl stays
 
 -- a Send and a Request leave the consumers
-same_consumers : (history : List Traced) (new : Traced) (call : Call) → new.entry.call ≡ call → consumer_made history call ≡ [] → ((id : ConsumerId) → ends history call id ≡ false) → consumers (history ++ new ∷ []) ≡ consumers history
-same_consumers history new call is_call none kept =
+same_consumers : (history : List Traced) (new : Traced) → AreBuilt (history ++ new ∷ []) → consumer_made history new.entry.call new.mark.deed ≡ [] →
+    ((id : ConsumerId) → ends_by_name new.entry.call new.mark.deed id ≡ false) → consumers (history ++ new ∷ []) ≡ consumers history
+same_consumers history new built none kept =
     lasting_same consumer_kind history new
-    (ap (λ k. cond (is_accepted new.entry.reply) (consumer_made history k) []) is_call ∙ ap (λ cs. cond (is_accepted new.entry.reply) cs []) none ∙ nothing_made (is_accepted new.entry.reply))
-    (λ consumer. ap (λ k. is_accepted new.entry.reply && ends history k consumer.id) is_call ∙ ap (λ b. is_accepted new.entry.reply && b) (kept consumer.id) ∙ and_false (is_accepted new.entry.reply))
+    (ap (λ cs. cond (is_accepted new.entry.reply) cs []) none ∙ nothing_made (is_accepted new.entry.reply))
+    (λ consumer. consumer_kept history new consumer (built_front history (new ∷ []) built) (built_last history new built) (kept consumer.id))
 
-chosen_live : (history after : List Traced) (is_sent : Bool) (address : List ℕ) → (HasHandlers history address → HasHandlers after address) → Each (HasHandlers after) (chosen_at history is_sent address)
+-- in a history of the calls so far; a frame that is sent may close the connection of the last handler
+abbrev IsChosenLive : List Traced → List ℕ → Type 0
+IsChosenLive history address = AreBuilt history → HasHandlers history address
+
+chosen_live : (history after : List Traced) (is_sent : Bool) (address : List ℕ) → (HasHandlers history address → IsChosenLive after address) → Each (IsChosenLive after) (chosen_at history is_sent address)
 chosen_live history after false address stays = tt
 chosen_live history after true address stays =
-    elim (is_empty (handlers history address)) as (λ b. (b ≡ false → HasHandlers after address) → Each (HasHandlers after) (cond (not b) (address ∷ []) [])) [
+    elim (is_empty (handlers history address)) as (λ b. (b ≡ false → IsChosenLive after address) → Each (IsChosenLive after) (cond (not b) (address ∷ []) [])) [
       | true ↦ λ live. tt
       | false ↦ λ live. (live refl, tt)
     ] stays
 
-made_live : (history : List Traced) (new : Traced) (call : Call) → new.entry.call ≡ call → Each (HasHandlers (history ++ new ∷ [])) (choice_made history call)
+framed_live : (history after : List Traced) (is_sent : Bool) (deed : Deed) → (AreBuilt after → ⊥) → Each (IsChosenLive after) (choice_by history is_sent deed)
+framed_live history after is_sent (deeds.Sends address headers body) none = chosen_live history after is_sent address (λ live built. absurd (none built))
+framed_live history after is_sent (deeds.Requests address headers body at) none = chosen_live history after is_sent address (λ live built. absurd (none built))
+framed_live history after is_sent _ none = tt
+
+not_framed : (history : List Traced) (new : Traced) (conn : ConnId) (frame : InFrame) → new.entry.call ≡ calls.FrameIn conn frame → AreBuilt (history ++ new ∷ []) → ⊥
+not_framed history new conn frame is_call built =
+    let no : true ≡ false = sym (built_last history new built).call ∙ ap is_built is_call in
+    cc
+
+made_live : (history : List Traced) (new : Traced) (call : Call) → new.entry.call ≡ call → Each (IsChosenLive (history ++ new ∷ [])) (choice_made history call new.mark.deed)
 made_live history new (calls.Send address body options) is_call =
-    chosen_live history (history ++ new ∷ []) _ address (stays_live history new address (same_consumers history new (calls.Send address body options) is_call refl (λ id. refl)))
-made_live history new (calls.Request context address body options timeout) is_call =
-    chosen_live history (history ++ new ∷ []) _ address (stays_live history new address (same_consumers history new (calls.Request context address body options timeout) is_call refl (λ id. refl)))
+    chosen_live history (history ++ new ∷ []) _ address
+    (λ live built. stays_live history new address (same_consumers history new built (ap (λ k. consumer_made history k new.mark.deed) is_call) (λ id. ap (λ k. ends_by_name k new.mark.deed id) is_call)) live)
+made_live history new (calls.Request context address body options timeout once) is_call =
+    chosen_live history (history ++ new ∷ []) _ address
+    (λ live built. stays_live history new address (same_consumers history new built (ap (λ k. consumer_made history k new.mark.deed) is_call) (λ id. ap (λ k. ends_by_name k new.mark.deed id) is_call)) live)
+made_live history new (calls.FrameIn conn frame) is_call = framed_live history (history ++ new ∷ []) _ new.mark.deed (not_framed history new conn frame is_call)
 made_live history new _ is_call = tt
 
-pub choices_live : (history : List Traced) → Each (HasHandlers history) (lasting choice_kind history)
-choices_live = lasting_each choice_kind HasHandlers keeps_live
-    (λ history new. accepted (HasHandlers (history ++ new ∷ [])) (is_accepted new.entry.reply) (choice_made history new.entry.call) (λ ok. made_live history new new.entry.call refl))
+choices_live : (history : List Traced) → Each (IsChosenLive history) (lasting choice_kind history)
+choices_live = lasting_each choice_kind IsChosenLive (λ history new address stays live built. keeps_live history new address stays (live (built_front history (new ∷ []) built)))
+    (λ history new. accepted (IsChosenLive (history ++ new ∷ [])) (is_accepted new.entry.reply) (choice_made history new.entry.call new.mark.deed) (λ ok. made_live history new new.entry.call refl))
 
 -- ## The count
 
@@ -84,8 +110,8 @@ other_address history address other none live =
     ] (bytes_eq-Decides address other).0
 
 -- where an address has no handlers, no choices are counted
-pub no_choices : (history : List Traced) (address : List ℕ) → is_empty (handlers history address) ≡ true → choices history address ≡ 0
-no_choices history address none =
+pub no_choices : (history : List Traced) (address : List ℕ) → AreBuilt history → is_empty (handlers history address) ≡ true → choices history address ≡ 0
+no_choices history address built none =
     sym (length-filter (bytes_eq address) (lasting choice_kind history))
     ∙ none_counted (bytes_eq address) (lasting choice_kind history)
-    (weaken (HasHandlers history) (λ other. bytes_eq address other ≡ false) (lasting choice_kind history) (λ other live. other_address history address other none live) (choices_live history))
+    (weaken (IsChosenLive history) (λ other. bytes_eq address other ≡ false) (lasting choice_kind history) (λ other live. other_address history address other none (live built)) (choices_live history))

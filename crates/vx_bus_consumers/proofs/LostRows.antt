@@ -6,6 +6,7 @@ use Rattle.std.proofs.lemmas.List.Folds.{list_any-append}
 use Rattle.std.proofs.lemmas.List.Sums.{length-filter, count_by-le-length}
 use Rattle.std.proofs.Math.ListN.{length-take}
 use Rattle.vx_data.specs.declared.ids.EntryNo.{EntryNo}
+use Rattle.vx_message.specs.declared.Context.{Context}
 use Rattle.vx_timer.specs.declared.timers.Timer.{Timer}
 use Rattle.vx_timer.specs.Order.{is_named}
 use Rattle.vx_request.specs.declared.requests.OpenRequest.{OpenRequest}
@@ -13,13 +14,14 @@ use Rattle.vx_context.specs.Stores.{ContextStore}
 use Rattle.vx_bus_store.specs.Stores.{BusStore}
 use Rattle.vx_bus_consumers.specs.Lost.{lost_item, lost_task, lost_items, lost_tasks, is_timer_of}
 
-pub items_push : (at : EntryNo) (place n : ℕ) (rows : List OpenRequest) (row : OpenRequest) → n ≡ place + length rows → lost_items at place (rows ++ row ∷ []) ≡ lost_items at place rows ++ lost_item at n row.id row.asker
-items_push at place n [] row e =
+pub items_push : (made : List Context) (at : EntryNo) (place n : ℕ) (rows : List OpenRequest) (row : OpenRequest) → n ≡ place + length rows →
+    lost_items made at place (rows ++ row ∷ []) ≡ lost_items made at place rows ++ lost_item made at n row.id row.asker
+items_push made at place n [] row e =
     let here : place ≡ n = omega arith in
-    append-nil (lost_item at place row.id row.asker) ∙ ap (λ m. lost_item at m row.id row.asker) here
-items_push at place n (first ∷ rows) row e =
-    let front = lost_item at place first.id first.asker in
-    ap (λ items. front ++ items) (items_push at (place + 1) n rows row (omega arith)) ∙ sym (append_assoc front (lost_items at (place + 1) rows) (lost_item at n row.id row.asker))
+    append-nil (lost_item made at place row.id row.asker) ∙ ap (λ m. lost_item made at m row.id row.asker) here
+items_push made at place n (first ∷ rows) row e =
+    let front = lost_item made at place first.id first.asker in
+    ap (λ items. front ++ items) (items_push made at (place + 1) n rows row (omega arith)) ∙ sym (append_assoc front (lost_items made at (place + 1) rows) (lost_item made at n row.id row.asker))
 
 pub tasks_push : (rows : List OpenRequest) (row : OpenRequest) → lost_tasks (rows ++ row ∷ []) ≡ lost_tasks rows ++ lost_task row.id row.asker
 tasks_push [] row = append-nil (lost_task row.id row.asker)
@@ -68,15 +70,16 @@ room_left test rows i before now within enough few = omega (arith, no_more test 
 
 -- ## The stores
 
-pub contexts_more : (first old new : ContextStore) (at : EntryNo) (place : ℕ) (row : OpenRequest) (lost all : List OpenRequest) → old ≡ record first { waiting = first.waiting ++ lost_items at 0 lost; room = old.room } →
-    new ≡ record old { waiting = old.waiting ++ lost_item at place row.id row.asker; room = new.room } → place ≡ length lost → all ≡ lost ++ row ∷ [] →
-    new ≡ record first { waiting = first.waiting ++ lost_items at 0 all; room = new.room }
+pub contexts_more : (first old new : ContextStore) (at : EntryNo) (place : ℕ) (row : OpenRequest) (lost all : List OpenRequest) → old ≡ record first { waiting = first.waiting ++ lost_items first.made at 0 lost; room = old.room } →
+    new ≡ record old { waiting = old.waiting ++ lost_item old.made at place row.id row.asker; room = new.room } → place ≡ length lost → all ≡ lost ++ row ∷ [] →
+    new ≡ record first { waiting = first.waiting ++ lost_items first.made at 0 all; room = new.room }
 contexts_more first old new at place row lost all is_old is_new is_place is_all =
+    let made = first.made in
     is_new
-    ∙ ap (λ (s : ContextStore). record s { waiting = s.waiting ++ lost_item at place row.id row.asker; room = new.room }) is_old
+    ∙ ap (λ (s : ContextStore). record s { waiting = s.waiting ++ lost_item s.made at place row.id row.asker; room = new.room }) is_old
     ∙ ap (λ items. record first { waiting = items; room = new.room })
-    (append_assoc first.waiting (lost_items at 0 lost) (lost_item at place row.id row.asker)
-    ∙ ap (λ items. first.waiting ++ items) (sym (ap (lost_items at 0) is_all ∙ items_push at 0 place lost row (omega arith))))
+    (append_assoc first.waiting (lost_items made at 0 lost) (lost_item made at place row.id row.asker)
+    ∙ ap (λ items. first.waiting ++ items) (sym (ap (lost_items made at 0) is_all ∙ items_push made at 0 place lost row (omega arith))))
 
 pub bus_more : (first old new : BusStore) (row : OpenRequest) (lost all : List OpenRequest) → old ≡ record first { tasks = first.tasks ++ lost_tasks lost; room = old.room } →
     new ≡ record old { tasks = old.tasks ++ lost_task row.id row.asker; room = new.room } → all ≡ lost ++ row ∷ [] →

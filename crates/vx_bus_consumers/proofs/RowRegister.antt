@@ -2,7 +2,6 @@
 use Rattle.std.proofs.Common.{◌≡◌, ℕ, List, [], ◌∷◌, ◌++◌, length, refl, ap, sym, ◌∙◌}
 use Rattle.std.specs.Prelude.{true, false, not, ◌&&◌, cond, filter, map, None}
 use Rattle.std.specs.List.{count_by}
-use Rattle.std.specs.Option.{option_map}
 use Rattle.std.specs.Str.{bytes_eq}
 use Rattle.std.proofs.lemmas.List.{append-nil, map-append}
 use Rattle.std.proofs.lemmas.List.Elements.{filter-append}
@@ -11,23 +10,25 @@ use Rattle.vx_data.specs.declared.ids.EntryNo.{EntryNo}
 use Rattle.vx_data.specs.declared.ids.PassNo.{PassNo}
 use Rattle.vx_data.specs.declared.ids.ContextId.{ContextId}
 use Rattle.vx_data.specs.declared.ids.ConsumerId.{ConsumerId}
+use Rattle.vx_message.specs.declared.Owner.TheVariants as owners
 use Rattle.vx_timer.specs.declared.timers.Timer.{Timer}
 use Rattle.vx_ring.specs.Rings.{consumers_at, choices_at}
 use Rattle.vx_request.specs.Stores.{ended_at, given_at}
 use Rattle.vx_consumer.specs.Flows.{Counted, fresh}
-use Rattle.vx_consumer.specs.Mailboxes.{numbers_of}
+use Rattle.vx_consumer.specs.Mailboxes.{numbers_of, ends}
 use Rattle.vx_call.specs.declared.call.Call.TheVariants as calls
 use Rattle.vx_call.specs.declared.reply.Reply.TheVariants as replies
 use Rattle.vx_call.specs.declared.history.Consumer.{Consumer}
 use Rattle.vx_call.specs.declared.history.Traced.{Traced}
-use Rattle.vx_call.specs.History.{plain_entry}
+use Rattle.vx_call.specs.History.{plain_entry, no_mark}
+use Rattle.vx_call.specs.Built.{IsBuilt}
 use Rattle.vx_call.specs.Names.{next_consumer}
 use Rattle.vx_call.specs.Consumers.{consumer_kind, consumers, handlers, is_at}
-use Rattle.vx_call.specs.Mailboxes.{mailbox}
+use Rattle.vx_call.specs.Mailboxes.{mailbox, move_if}
 use Rattle.vx_call.specs.Choices.{choice_kind, is_empty}
-use Rattle.vx_call.specs.Settled.{Settled}
 use Rattle.vx_call.specs.Refusals.{unless_refused}
 use Rattle.vx_call.specs.Rows.{register_refusal, ids_of}
+use Rattle.vx_call.proofs.Built.{built_more}
 use Rattle.vx_call.proofs.Lasting.{lasting_same, lasting_more}
 use Rattle.vx_call.proofs.Mailboxes.{mailbox_unmoved, mailbox_new}
 use Rattle.vx_context.specs.Stores.{ContextStore}
@@ -35,7 +36,8 @@ use Rattle.vx_context.specs.Stands.{IsNext}
 use Rattle.vx_bus_store.specs.declared.bus.Handler.{Handler}
 use Rattle.vx_bus_store.specs.Stores.{BusStore, handler_of, row_of}
 use Rattle.vx_bus_store.specs.Stands.{StoresStand, Follows}
-use Rattle.vx_bus_store.proofs.Frames.{contexts_left, timers_left, requests_left, tasks_left, ended_left, given_left, codecs_left, rules_left, handlers_by, LeavesWaiting, LeavesRequests}
+use Rattle.vx_bus_store.proofs.Frames.{contexts_left, timers_left, requests_left, owner_open, consumer_kept, tasks_left, ended_left, given_left, codecs_left, rules_left, handlers_by, LeavesRequests}
+use Rattle.vx_bus_store.proofs.KeptRequests.{request_kept}
 
 -- more consumers leave no address without one
 still_live : (cs ds : List Consumer) → (not (is_empty cs) && is_empty (cs ++ ds)) ≡ false
@@ -81,26 +83,37 @@ handlers_more history entry consumer is_new more unmoved =
 -- a new consumer
 pub registers : (contexts : ContextStore) (timers : List Timer) (old new : BusStore) (history : List Traced) (at : EntryNo) (pass : PassNo) (context : ContextId) (address : List ℕ) (limit : ℕ) →
     StoresStand contexts timers old history → IsNext at history → register_refusal history pass context address limit ≡ None →
-    new ≡ record old { consumers = old.consumers ++ record { consumer = record { id = record { 0 = at }; context = context; address = address; limit = limit }; flow = fresh limit } ∷ []; rings = new.rings } →
+    new ≡ record old { consumers = old.consumers ++ record { consumer = record { id = record { 0 = at }; owner = owners.Context context; address = address; limit = limit }; flow = fresh limit } ∷ []; rings = new.rings } →
     ((a : List ℕ) → consumers_at a new.rings ≡ cond (bytes_eq a address) (consumers_at a old.rings ++ record { 0 = at } ∷ []) (consumers_at a old.rings)) →
     ((a : List ℕ) → choices_at a new.rings ≡ choices_at a old.rings) →
     Follows contexts timers new history pass (calls.Register context address limit) (replies.Consumer (record { 0 = at }))
 registers contexts timers old new history at pass context address limit stands is_next free is_new in_turn chosen =
-    let consumer = λ (n : ℕ). (let c : Consumer = record { id = name n; context = context; address = address; limit = limit } in c) in
-    let entry = plain_entry pass (calls.Register context address limit) (replies.Consumer (name at.0)) in
-    let more = lasting_more consumer_kind history entry (λ c. refl) in
-    let waits : LeavesWaiting history entry = record { none = refl; kept = λ w. refl } in
-    let requests : LeavesRequests history entry = record { opened = refl; settled = λ r. refl } in
+    let consumer = λ (n : ℕ). (let c : Consumer = record { id = name n; owner = owners.Context context; address = address; limit = limit } in c) in
+    let entry = plain_entry pass (calls.Register context address limit) (replies.Consumer (name at.0)) no_mark in
+    let built = stands.built in
+    let one : IsBuilt entry = record { call = refl; mark = refl } in
+    let more = lasting_more consumer_kind history entry (λ c. consumer_kept history entry c built one refl) in
+    let requests : LeavesRequests history entry = record { opened = refl; settled = λ r. request_kept history entry r built one refl } in
+    let unmoved : (other : Consumer) → mailbox (history ++ entry ∷ []) other ≡ mailbox history other = λ other.
+    mailbox_unmoved history entry other (ap (λ b. move_if b ends) (owner_open history entry other.owner built one)) in
     record {
       answered = ap (λ n. replies.Consumer (name n)) is_next ∙ sym (ap (λ r. unless_refused r (replies.Consumer (next_consumer history))) free);
       stores = record {
-        contexts = contexts_left contexts history entry (record { contexts = refl; held = refl; finished = λ h. refl; waiting = waits }) stands.contexts;
+        built = built_more history entry built one;
+        contexts = contexts_left contexts history entry
+            (record {
+              items = record { contexts = refl; queued = refl };
+              pools = refl;
+              held = refl;
+              finished = λ h. refl;
+              waiting = record { none = refl; kept = λ w. refl };
+            }) stands.contexts;
         timers = timers_left timers history entry requests stands.timers;
         bus = record {
           consumers = ap (λ (s : BusStore). s.consumers) is_new
               ∙ ap (λ hs. hs ++ with_flow (consumer at.0) (fresh limit) ∷ []) stands.bus.consumers
               ∙ ap (λ n. map (handler_of history) (consumers history) ++ with_flow (consumer n) (fresh limit) ∷ []) is_next
-              ∙ sym (handlers_more history entry (consumer (length history)) refl more (λ other. mailbox_unmoved history entry other refl));
+              ∙ sym (handlers_more history entry (consumer (length history)) refl more unmoved);
           rings = λ a. in_turn a
               ∙ ap (λ ids. cond (bytes_eq a address) (ids ++ name at.0 ∷ []) ids) (stands.bus.rings a)
               ∙ ap (λ n. cond (bytes_eq a address) (ids_of (handlers history a) ++ name n ∷ []) (ids_of (handlers history a))) is_next
@@ -112,7 +125,7 @@ registers contexts timers old new history at pass context address limit stands i
               ∙ still_live (handlers history b) (filter (is_at b) (consumer (length history) ∷ [])))));
           tasks = ap (λ (s : BusStore). s.tasks) is_new ∙ stands.bus.tasks ∙ sym (tasks_left history entry (record { made = refl; kept = λ t. refl }));
           opened = ap (λ (s : BusStore). s.requests.waiting) is_new ∙ stands.bus.opened ∙ ap (map row_of) (sym (requests_left history entry requests));
-          ended = λ id. ap (λ (s : BusStore). ended_at id s.requests.ended) is_new ∙ stands.bus.ended id ∙ ap (option_map (λ (s : Settled). s.at)) (sym (ended_left history entry id refl));
+          ended = λ id. ap (λ (s : BusStore). ended_at id s.requests.ended) is_new ∙ stands.bus.ended id ∙ sym (ended_left history entry id built one refl);
           given = λ id. ap (λ (s : BusStore). given_at id s.given) is_new ∙ stands.bus.given id ∙ sym (given_left history entry id refl);
           codecs = ap (λ (s : BusStore). s.codecs) is_new ∙ stands.bus.codecs ∙ sym (codecs_left history entry (record { added = refl; kept = λ c. refl }));
           rules = ap (λ (s : BusStore). s.rules) is_new ∙ stands.bus.rules ∙ sym (rules_left history entry (record { added = refl; kept = λ r. refl }));

@@ -1,16 +1,17 @@
 -- Unregister.
-use Rattle.std.proofs.Common.{◌≡◌, ℕ, ◌+◌, ◌≤◌, List, [], ◌++◌, length, refl, ap, sym, ◌∙◌, append-nil, arith}
-use Rattle.std.specs.Prelude.{Bool, true, false, not, cond, map, filter, find, Option, None, Some}
+use Rattle.std.proofs.Common.{◌≡◌, ℕ, ◌+◌, ◌≤◌, List, ◌++◌, length, refl, ap, sym, ◌∙◌, append-nil, arith}
+use Rattle.std.specs.Prelude.{Bool, true, not, ◌||◌, cond, map, filter, find, Option, None, Some}
 use Rattle.std.specs.Option.{option_map, option_or}
 use Rattle.std.specs.Str.{bytes_eq}
 use Rattle.std.proofs.lemmas.List.{map-append}
+use Rattle.std.proofs.lemmas.List.Elements.{filter_agree}
 use Rattle.std.proofs.lemmas.List.Filters.{length-filter_both}
 use Rattle.std.proofs.lemmas.List.Sums.{length-filter, count_by-le-length}
 use Rattle.vx_data.specs.declared.ids.ConsumerId.{ConsumerId}
 use Rattle.vx_data.specs.declared.ids.EntryNo.{EntryNo}
 use Rattle.vx_data.specs.declared.ids.MessageId.{MessageId}
 use Rattle.vx_data.specs.declared.ids.PassNo.{PassNo}
-use Rattle.vx_message.specs.declared.Given.{Given}
+use Rattle.vx_message.specs.declared.Context.{Context}
 use Rattle.vx_message.specs.declared.Item.{Item}
 use Rattle.vx_timer.specs.declared.timers.Timer.{Timer}
 use Rattle.vx_ring.specs.Rings as ring
@@ -21,37 +22,43 @@ use Rattle.vx_call.specs.declared.reply.Reply.TheVariants as replies
 use Rattle.vx_call.specs.declared.reply.Task.{Task}
 use Rattle.vx_call.specs.declared.history.Consumer.{Consumer}
 use Rattle.vx_call.specs.declared.history.Traced.{Traced}
-use Rattle.vx_call.specs.History.{lasting, plain_entry}
+use Rattle.vx_call.specs.History.{lasting}
+use Rattle.vx_call.specs.Built.{AreBuilt}
 use Rattle.vx_data.specs.Ids.{same_consumer, same_message}
 use Rattle.vx_call.specs.Names.{next_entry}
-use Rattle.vx_call.specs.Contexts.{context_kind}
-use Rattle.vx_call.specs.Consumers.{consumers, handlers, live, is_named}
-use Rattle.vx_call.specs.Given.{given, given_kind}
+use Rattle.vx_call.specs.Contexts.{contexts as made_contexts}
+use Rattle.vx_call.specs.Registered.{is_named}
+use Rattle.vx_call.specs.Consumers.{closes_owner, consumers, handlers, live}
+use Rattle.vx_call.specs.Given.{given}
 use Rattle.vx_call.specs.Requests.{Open, open_kind, unsettled, by_due}
 use Rattle.vx_call.specs.Settled.{Settled, no_handlers, settlements, settled_kind, settled}
+use Rattle.vx_call.specs.Homes.{heard}
 use Rattle.vx_call.specs.Mailboxes.{mailbox, move_if}
 use Rattle.vx_call.specs.Items.{Waiting, item_kind, waiting, task_kind, untaken, is_for, outcome_items, outcome_tasks}
 use Rattle.vx_call.specs.Held.{held_kind}
-use Rattle.vx_call.specs.Refusals.{unless_refused, not_your_consumer}
+use Rattle.vx_call.specs.Refusals.{unless_refused}
 use Rattle.vx_call.specs.Rows.{consumer_refusal, ids_of}
 use Rattle.vx_call.proofs.Lasting.{lasting_same, lasting-append}
-use Rattle.vx_call.proofs.Each.{weaken, passing, not_true}
+use Rattle.vx_call.proofs.Each.{Each, Each-filter, weaken, passing, not_true}
 use Rattle.vx_call.proofs.Mailboxes.{mailbox_unmoved}
 use Rattle.vx_call.proofs.Opened.{unsettled_apart}
 use Rattle.vx_call.proofs.Settlings.{settled-append}
+use Rattle.vx_call.proofs.Built.{IsAskedByContext, built_more, settled_by_outcome, unsettled_of_contexts}
 use Rattle.vx_context.specs.Stores.{ContextStore, item_of, is_item_for}
 use Rattle.vx_context.specs.Stands.{ContextsStand, IsNext}
+use Rattle.vx_context.proofs.Items.{contexts_stay, items_left}
 use Rattle.vx_consumer.specs.Mailboxes.{Mailbox, numbers_of, ends}
 use Rattle.vx_bus_store.specs.declared.bus.Handler.{Handler}
 use Rattle.vx_bus_consumers.specs.Lost.{lost_items, lost_tasks, is_timer_of}
 use Rattle.vx_bus_store.specs.Stores.{BusStore, handler_of, handler_in, names, held_in, row_of, timer_of}
 use Rattle.vx_bus_store.specs.Stands.{BusStands, TimersStand, StoresStand, Follows, HavePlaces}
-use Rattle.vx_bus_store.proofs.Frames.{never_ended, codecs_left, rules_left}
+use Rattle.vx_bus_store.proofs.Frames.{pools_stay, owner_open, ended_by_outcome, given_left, codecs_left, rules_left}
 use Rattle.vx_bus_store.proofs.Handlers.{handler_is}
 use Rattle.vx_bus_store.proofs.HeldCounts.{held_in-filter}
 use Rattle.vx_bus_store.proofs.Images.{filter_mapped, map_each}
-use Rattle.vx_bus_consumers.proofs.Selections.{every, items_left}
-use Rattle.vx_bus_consumers.proofs.UnregisterConsumers.{unregistered, is_there, consumers_left, rings_left, choices_left}
+use Rattle.vx_bus_store.proofs.KeptRequests.{ended_by_call}
+use Rattle.vx_bus_consumers.proofs.Selections.{every, items_without}
+use Rattle.vx_bus_consumers.proofs.UnregisterConsumers.{unregister_entry, unregister_built, unregistered, live_there, consumers_left, rings_left, choices_left}
 use Rattle.vx_bus_consumers.proofs.UnregisterRequests.{ends_with, lost_same, items_lost, tasks_lost, timers_lost, ends_lost}
 
 -- the requests that end with the consumer, and their outcomes
@@ -59,38 +66,50 @@ abbrev lost : List Traced → ConsumerId → List Open
 lost history id = filter (ends_with history id) (unsettled history)
 
 abbrev outcomes : List Traced → ConsumerId → List Waiting
-outcomes history id = outcome_items 0 (settlements history no_handlers (lost history id))
+outcomes history id = outcome_items 0 (heard (settlements history no_handlers (lost history id)))
+
+-- contexts asked them
+lost_of_contexts : (history : List Traced) (id : ConsumerId) → AreBuilt history → Each IsAskedByContext (lost history id)
+lost_of_contexts history id built = Each-filter IsAskedByContext IsAskedByContext (ends_with history id) (unsettled history) (λ request passes asked. asked) (unsettled_of_contexts history built)
 
 -- ## The tasks that wait
 
 waits : (history : List Traced) (pass : PassNo) (id : ConsumerId) → waiting (unregistered history pass id) ≡ filter (λ (w : Waiting). not (is_for id w.task)) (waiting history) ++ outcomes history id
-waits history pass id = lasting-append item_kind history (plain_entry pass (calls.Unregister id) replies.Done)
+waits history pass id = lasting-append item_kind history (unregister_entry pass id)
 
 untaken_left : (history : List Traced) (pass : PassNo) (id : ConsumerId) →
-    untaken (unregistered history pass id) ≡ filter (λ (task : Task). not (is_for id task)) (untaken history) ++ outcome_tasks (settlements history no_handlers (lost history id))
-untaken_left history pass id = lasting-append task_kind history (plain_entry pass (calls.Unregister id) replies.Done)
+    untaken (unregistered history pass id) ≡ filter (λ (task : Task). not (is_for id task)) (untaken history) ++ outcome_tasks (heard (settlements history no_handlers (lost history id)))
+untaken_left history pass id = lasting-append task_kind history (unregister_entry pass id)
 
 -- ## The contexts
 
 contexts_unregistered : (old cancelled new : ContextStore) (history : List Traced) (pass : PassNo) (id : ConsumerId) → ContextsStand old history →
     cancelled ≡ record old { waiting = filter (λ (item : Item). not (is_item_for id item.kind)) old.waiting; room = cancelled.room } →
-    new ≡ record cancelled { waiting = cancelled.waiting ++ map item_of (outcomes history id); room = new.room } → ContextsStand new (unregistered history pass id)
+    new ≡ record cancelled { waiting = cancelled.waiting ++ map (item_of history) (outcomes history id); room = new.room } → ContextsStand new (unregistered history pass id)
 contexts_unregistered old cancelled new history pass id stands is_cancelled is_new =
-    let entry = plain_entry pass (calls.Unregister id) replies.Done in
+    let entry = unregister_entry pass id in
+    let made = map (item_of history) (outcomes history id) in
     record {
-      made = ap (λ (s : ContextStore). s.made) is_new ∙ ap (λ (s : ContextStore). s.made) is_cancelled ∙ stands.made ∙ sym (lasting_same context_kind history entry refl (never_ended history entry));
+      made = ap (λ (s : ContextStore). s.made) is_new ∙ ap (λ (s : ContextStore). s.made) is_cancelled ∙ stands.made ∙ sym (contexts_stay history entry refl);
       held = ap (λ (s : ContextStore). s.held) is_new ∙ ap (λ (s : ContextStore). s.held) is_cancelled ∙ stands.held ∙ sym (lasting_same held_kind history entry refl (λ h. refl));
+      pools = ap (λ (s : ContextStore). s.pools) is_new ∙ ap (λ (s : ContextStore). s.pools) is_cancelled ∙ stands.pools ∙ sym (pools_stay history entry refl);
       waiting = ap (λ (s : ContextStore). s.waiting) is_new
-          ∙ ap (λ (s : ContextStore). s.waiting ++ map item_of (outcomes history id)) is_cancelled
-          ∙ ap (λ items. filter (λ (item : Item). not (is_item_for id item.kind)) items ++ map item_of (outcomes history id)) stands.waiting
-          ∙ ap (λ items. items ++ map item_of (outcomes history id)) (items_left id (waiting history))
-          ∙ sym (ap (map item_of) (waits history pass id) ∙ map-append item_of (filter (λ (w : Waiting). not (is_for id w.task)) (waiting history)) (outcomes history id));
+          ∙ ap (λ (s : ContextStore). s.waiting ++ made) is_cancelled
+          ∙ ap (λ items. filter (λ (item : Item). not (is_item_for id item.kind)) items ++ made) stands.waiting
+          ∙ ap (λ items. items ++ made) (items_without history id (waiting history))
+          ∙ sym (items_left history entry (record { contexts = refl; queued = refl }) (waiting (unregistered history pass id))
+          ∙ ap (map (item_of history)) (waits history pass id)
+          ∙ map-append (item_of history) (filter (λ (w : Waiting). not (is_for id w.task)) (waiting history)) (outcomes history id));
     }
 
 -- ## The timers
 
 still_open : (history : List Traced) (pass : PassNo) (id : ConsumerId) → unsettled (unregistered history pass id) ≡ filter (λ request. not (ends_with history id request)) (unsettled history)
-still_open history pass id = lasting-append open_kind history (plain_entry pass (calls.Unregister id) replies.Done) ∙ append-nil _
+still_open history pass id =
+    let entry = unregister_entry pass id in
+    lasting-append open_kind history entry
+    ∙ append-nil _
+    ∙ filter_agree _ _ (λ (request : Open). ap not (ended_by_call history entry request (unregister_built pass id))) (unsettled history)
 
 timers_unregistered : (old new : List Timer) (history : List Traced) (pass : PassNo) (id : ConsumerId) → TimersStand old history →
     new ≡ filter (λ (timer : Timer). not (is_timer_of (map row_of (lost history id)) timer)) old → TimersStand new (unregistered history pass id)
@@ -102,24 +121,24 @@ timers_unregistered old new history pass id stands is_new =
 
 -- ## The bus
 
-unmoved : (id other : ConsumerId) → same_consumer id other ≡ false → move_if (same_consumer id other) ends ≡ []
-unmoved id other differs = ap (λ b. move_if b ends) differs
-
-mailbox_kept : (history : List Traced) (pass : PassNo) (id : ConsumerId) (consumer : Consumer) → not (is_named id consumer) ≡ true → mailbox (unregistered history pass id) consumer ≡ mailbox history consumer
-mailbox_kept history pass id consumer other =
-    mailbox_unmoved history (plain_entry pass (calls.Unregister id) replies.Done) consumer (unmoved id consumer.id (not_true (is_named id consumer) other))
+mailbox_kept : (history : List Traced) (pass : PassNo) (id : ConsumerId) (consumer : Consumer) → AreBuilt history → not (is_named id consumer) ≡ true → mailbox (unregistered history pass id) consumer ≡ mailbox history consumer
+mailbox_kept history pass id consumer built other =
+    let entry = unregister_entry pass id in
+    mailbox_unmoved history entry consumer
+    (ap (λ b. move_if (b || closes_owner history pass entry.entry.call entry.mark consumer.owner) ends) (not_true (is_named id consumer) other)
+    ∙ ap (λ b. move_if b ends) (owner_open history entry consumer.owner built (unregister_built pass id)))
 
 -- the other handlers stay
-handlers_kept : (history : List Traced) (pass : PassNo) (id : ConsumerId) →
+handlers_kept : (history : List Traced) (pass : PassNo) (id : ConsumerId) → AreBuilt history →
     filter (λ (h : Handler). not (names id h)) (map (handler_of history) (consumers history)) ≡ map (handler_of (unregistered history pass id)) (consumers (unregistered history pass id))
-handlers_kept history pass id =
+handlers_kept history pass id built =
     let after = handler_of (unregistered history pass id) in
     let others = filter (λ (c : Consumer). not (is_named id c)) (consumers history) in
     filter_mapped (λ (h : Handler). not (names id h)) (λ (c : Consumer). not (is_named id c)) (handler_of history) (consumers history) (every _ (λ c. refl) (consumers history))
     ∙ sym (map_each after (handler_of history) others
     (weaken (λ c. not (is_named id c) ≡ true) (λ c. after c ≡ handler_of history c) others
-    (λ c other. ap (λ (m : Mailbox). (let h : Handler = record { consumer = c; flow = numbers_of m } in h)) (mailbox_kept history pass id c other)) (passing (λ c. not (is_named id c)) (consumers history))))
-    ∙ ap (map after) (consumers_left history pass id)
+    (λ c other. ap (λ (m : Mailbox). (let h : Handler = record { consumer = c; flow = numbers_of m } in h)) (mailbox_kept history pass id c built other)) (passing (λ c. not (is_named id c)) (consumers history))))
+    ∙ ap (map after) (consumers_left history pass id built)
 
 -- what the calls on the bus made of it
 pub record BusSteps (old removed failed new : BusStore) (id : ConsumerId) (at : EntryNo) : Type 0 where
@@ -150,10 +169,11 @@ left_rows store history pass id has =
     (every _ (λ request. ap not (lost_same history store.given id has.given request)) (unsettled history))
     ∙ ap (map row_of) (sym (still_open history pass id))
 
-bus_unregistered : (old removed failed new : BusStore) (history : List Traced) (at : EntryNo) (pass : PassNo) (id : ConsumerId) (consumer : Consumer) → BusStands old history → at ≡ next_entry history →
+bus_unregistered : (old removed failed new : BusStore) (history : List Traced) (at : EntryNo) (pass : PassNo) (id : ConsumerId) (consumer : Consumer) → AreBuilt history → BusStands old history → at ≡ next_entry history →
     live history id ≡ Some consumer → BusSteps old removed failed new id at → BusStands new (unregistered history pass id)
-bus_unregistered old removed failed new history at pass id consumer stands is_next found_there steps =
-    let entry = plain_entry pass (calls.Unregister id) replies.Done in
+bus_unregistered old removed failed new history at pass id consumer built stands is_next found_there steps =
+    let entry = unregister_entry pass id in
+    let one = unregister_built pass id in
     let handler = handler_of history consumer in
     let found : handler_in old.consumers id ≡ Some handler = handler_is old history id stands ∙ ap (option_map (handler_of history)) found_there in
     let removed_has : HasRequests removed history = record {
@@ -167,33 +187,33 @@ bus_unregistered old removed failed new history at pass id consumer stands is_ne
     let in_turn : (a : List ℕ) → ring.consumers_at a removed.rings ≡ ids_of (handlers (unregistered history pass id) a) = λ a.
     steps.out_of_turn handler found a
     ∙ ap (λ live. cond (bytes_eq a consumer.address) (filter (λ other. not (same_consumer id other)) live) live) (stands.rings a)
-    ∙ rings_left history pass id consumer a found_there in
+    ∙ rings_left history pass id consumer a built found_there in
     let end_in = λ (ended : Option EntryNo) (rows : List OpenRequest) (e : EntryNo) (m : MessageId). option_or ended (option_map (λ _. e) (find (is_request m) rows)) in
     record {
       consumers = ap (λ (s : BusStore). s.consumers) steps.ended ∙ ap (λ (s : BusStore). s.consumers) steps.made ∙ ap (λ (s : BusStore). s.consumers) steps.left
-          ∙ ap (filter (λ (h : Handler). not (names id h))) stands.consumers ∙ handlers_kept history pass id;
+          ∙ ap (filter (λ (h : Handler). not (names id h))) stands.consumers ∙ handlers_kept history pass id built;
       rings = λ a. ap (λ (s : BusStore). ring.consumers_at a s.rings) steps.ended ∙ ap (λ (s : BusStore). ring.consumers_at a s.rings) steps.made ∙ in_turn a;
       choices = λ a. ap (λ (s : BusStore). ring.choices_at a s.rings) steps.ended ∙ ap (λ (s : BusStore). ring.choices_at a s.rings) steps.made
           ∙ steps.choices handler found a
           ∙ ap (λ live. cond (ring.is_empty live) 0 (ring.choices_at a old.rings)) (in_turn a)
           ∙ ap (cond (ring.is_empty (ids_of (handlers (unregistered history pass id) a))) 0) (stands.choices a)
-          ∙ choices_left history pass id a;
+          ∙ choices_left history pass id a built;
       tasks = ap (λ (s : BusStore). s.tasks) steps.ended ∙ ap (λ (s : BusStore). s.tasks) steps.made
           ∙ ap (λ rows. removed.tasks ++ lost_tasks rows) (lost_rows removed history id removed_has)
           ∙ ap (λ (s : BusStore). s.tasks ++ lost_tasks (map row_of (lost history id))) steps.left
           ∙ ap (λ tasks. filter (λ (task : Task). not (is_for id task)) tasks ++ lost_tasks (map row_of (lost history id))) stands.tasks
-          ∙ ap (λ tasks. filter (λ (task : Task). not (is_for id task)) (untaken history) ++ tasks) (tasks_lost history (lost history id))
+          ∙ ap (λ tasks. filter (λ (task : Task). not (is_for id task)) (untaken history) ++ tasks) (tasks_lost history (lost history id) (lost_of_contexts history id built))
           ∙ sym (untaken_left history pass id);
       opened = steps.opened ∙ left_rows failed history pass id failed_has;
       ended = λ m. steps.ends m
           ∙ ap (λ ended. end_in ended (filter (is_lost id failed.given) failed.requests.waiting) at m)
-          (ap (λ (s : BusStore). ended_at m s.requests.ended) steps.made ∙ ap (λ (s : BusStore). ended_at m s.requests.ended) steps.left ∙ stands.ended m)
+          (ap (λ (s : BusStore). ended_at m s.requests.ended) steps.made ∙ ap (λ (s : BusStore). ended_at m s.requests.ended) steps.left ∙ stands.ended m ∙ settled_by_outcome history m built)
           ∙ ap (λ rows. end_in (option_map (λ (s : Settled). s.at) (settled history m)) rows at m) (lost_rows failed history id failed_has)
           ∙ ap (λ e. end_in (option_map (λ (s : Settled). s.at) (settled history m)) (map row_of (lost history id)) e m) is_next
           ∙ ends_lost history m (lasting settled_kind history) (lost history id)
-          ∙ ap (λ all. option_map (λ (s : Settled). s.at) (find (λ (s : Settled). same_message m s.request) all)) (sym (settled-append history entry));
-      given = λ m. ap (λ (s : BusStore). given_at m s.given) steps.ended ∙ failed_has.given m
-          ∙ ap (find (λ (g : Given). same_message m g.id)) (sym (lasting_same given_kind history entry refl (λ g. refl)));
+          ∙ sym (ended_by_outcome history entry m built one (find (λ (s : Settled). same_message m s.request) (lasting settled_kind history ++ settlements history no_handlers (lost history id)))
+          (ap (find (λ (s : Settled). same_message m s.request)) (settled-append history entry)));
+      given = λ m. ap (λ (s : BusStore). given_at m s.given) steps.ended ∙ failed_has.given m ∙ sym (given_left history entry m refl);
       codecs = ap (λ (s : BusStore). s.codecs) steps.ended ∙ ap (λ (s : BusStore). s.codecs) steps.made ∙ ap (λ (s : BusStore). s.codecs) steps.left
           ∙ stands.codecs ∙ sym (codecs_left history entry (record { added = refl; kept = λ c. refl }));
       rules = ap (λ (s : BusStore). s.rules) steps.ended ∙ ap (λ (s : BusStore). s.rules) steps.made ∙ ap (λ (s : BusStore). s.rules) steps.left
@@ -205,27 +225,32 @@ bus_unregistered old removed failed new history at pass id consumer stands is_ne
 pub unregisters : (contexts cancelled new_contexts : ContextStore) (timers new_timers : List Timer) (bus removed failed new_bus : BusStore) (history : List Traced) (at : EntryNo) (pass : PassNo) (id : ConsumerId) →
     StoresStand contexts timers bus history → IsNext at history → consumer_refusal history pass id ≡ None →
     cancelled ≡ record contexts { waiting = filter (λ (item : Item). not (is_item_for id item.kind)) contexts.waiting; room = cancelled.room } →
-    new_contexts ≡ record cancelled { waiting = cancelled.waiting ++ lost_items at 0 (filter (is_lost id removed.given) removed.requests.waiting); room = new_contexts.room } →
+    new_contexts ≡ record cancelled { waiting = cancelled.waiting ++ lost_items cancelled.made at 0 (filter (is_lost id removed.given) removed.requests.waiting); room = new_contexts.room } →
     new_timers ≡ filter (λ (timer : Timer). not (is_timer_of (filter (is_lost id removed.given) removed.requests.waiting) timer)) timers →
     BusSteps bus removed failed new_bus id at → Follows new_contexts new_timers new_bus history pass (calls.Unregister id) replies.Done
 unregisters contexts cancelled new_contexts timers new_timers bus removed failed new_bus history at pass id stands is_next free is_cancelled is_contexts is_timers steps =
-    let there = is_there (live history id) (not_your_consumer history pass id) free in
+    let there = live_there history pass id free in
     let is_at_next : at ≡ next_entry history = ap (λ n. let e : EntryNo = record { 0 = n } in e) is_next in
     let removed_has : HasRequests removed history = record {
       opened = ap (λ (s : BusStore). s.requests.waiting) steps.left ∙ stands.bus.opened;
       given = λ m. ap (λ (s : BusStore). given_at m s.given) steps.left ∙ stands.bus.given m;
     } in
     let rows = lost_rows removed history id removed_has in
-    let items : lost_items at 0 (filter (is_lost id removed.given) removed.requests.waiting) ≡ map item_of (outcomes history id) =
-    ap (lost_items at 0) rows ∙ ap (λ e. lost_items e 0 (map row_of (lost history id))) is_at_next ∙ items_lost history 0 (lost history id) in
+    let lost_in = λ (all : List Context) (e : EntryNo). lost_items all e 0 (map row_of (lost history id)) in
+    let items : lost_items cancelled.made at 0 (filter (is_lost id removed.given) removed.requests.waiting) ≡ map (item_of history) (outcomes history id) =
+    ap (lost_items cancelled.made at 0) rows
+    ∙ ap (λ all. lost_in all at) (ap (λ (s : ContextStore). s.made) is_cancelled ∙ stands.contexts.made)
+    ∙ ap (λ e. lost_in (made_contexts history) e) is_at_next
+    ∙ items_lost history 0 (lost history id) (lost_of_contexts history id stands.built) in
     record {
       answered = sym (ap (λ refusal. unless_refused refusal replies.Done) free);
       stores = record {
+        built = built_more history (unregister_entry pass id) stands.built (unregister_built pass id);
         contexts = contexts_unregistered contexts cancelled new_contexts history pass id stands.contexts is_cancelled
             (is_contexts ∙ ap (λ xs. record cancelled { waiting = cancelled.waiting ++ xs; room = new_contexts.room }) items);
         timers = timers_unregistered timers new_timers history pass id stands.timers
             (is_timers ∙ ap (λ xs. filter (λ (timer : Timer). not (is_timer_of xs timer)) timers) rows);
-        bus = bus_unregistered bus removed failed new_bus history at pass id there.0 stands.bus is_at_next there.1 steps;
+        bus = bus_unregistered bus removed failed new_bus history at pass id there.0 stands.built stands.bus is_at_next there.1 steps;
       };
     }
 

@@ -9,7 +9,9 @@ use Rattle.vx_data.specs.declared.ids.ConsumerId.{ConsumerId}
 use Rattle.vx_message.specs.declared.Item.{Item}
 use Rattle.vx_call.specs.declared.reply.Task.{Task}
 use Rattle.vx_call.specs.declared.reply.Task.TheVariants as tasks
-use Rattle.vx_call.specs.Items.{Waiting, is_for, kind_of}
+use Rattle.vx_call.specs.declared.history.Traced.{Traced}
+use Rattle.vx_call.specs.Items.{Waiting, is_for}
+use Rattle.vx_call.specs.Kinds.{kind_of}
 use Rattle.vx_call.proofs.Each.{Each}
 use Rattle.vx_context.specs.Stores.{item_of, is_item_for}
 use Rattle.vx_bus_store.proofs.Images.{filter_mapped}
@@ -22,12 +24,13 @@ every P all (x ∷ xs) = (all x, every P all xs)
 
 kept_kinds : (id : ConsumerId) (task : Task) → is_item_for id (kind_of task) ≡ is_for id task
 kept_kinds id (tasks.Deliver consumer message) = refl
-kept_kinds id (tasks.Outcome request outcome) = refl
+kept_kinds id _ = refl
 
 -- the items of a consumer's messages are those of its tasks
-pub items_left : (id : ConsumerId) (all : List Waiting) → filter (λ (item : Item). not (is_item_for id item.kind)) (map item_of all) ≡ map item_of (filter (λ (w : Waiting). not (is_for id w.task)) all)
-items_left id all =
-    filter_mapped (λ (item : Item). not (is_item_for id item.kind)) (λ (w : Waiting). not (is_for id w.task)) item_of all (every _ (λ w. ap not (kept_kinds id w.task)) all)
+pub items_without : (history : List Traced) (id : ConsumerId) (all : List Waiting) →
+    filter (λ (item : Item). not (is_item_for id item.kind)) (map (item_of history) all) ≡ map (item_of history) (filter (λ (w : Waiting). not (is_for id w.task)) all)
+items_without history id all =
+    filter_mapped (λ (item : Item). not (is_item_for id item.kind)) (λ (w : Waiting). not (is_for id w.task)) (item_of history) all (every _ (λ w. ap not (kept_kinds id w.task)) all)
 
 -- ## Those that stay
 

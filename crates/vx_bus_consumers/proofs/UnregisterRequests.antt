@@ -1,39 +1,46 @@
 -- The requests that end with a consumer.
 use Rattle.std.proofs.Common.{◌≡◌, ℕ, ◌+◌, List, [], ◌∷◌, ◌++◌, refl, ap, sym, ◌∙◌}
 use Rattle.std.specs.Prelude.{Bool, true, false, not, cond, ◌&&◌, ◌||◌, ◌==◌, map, filter, find, is_some, Option, None, Some}
+use Rattle.std.specs.List.{cons_option}
 use Rattle.std.specs.Option.{option_map, option_or}
 use Rattle.std.proofs.lemmas.Bool.{eq-eqb}
 use Rattle.std.proofs.lemmas.List.Folds.{find-append}
 use Rattle.vx_data.specs.declared.ids.ConsumerId.{ConsumerId}
+use Rattle.vx_data.specs.declared.ids.ContextId.{ContextId}
 use Rattle.vx_data.specs.declared.ids.EntryNo.{EntryNo}
 use Rattle.vx_data.specs.declared.ids.MessageId.{MessageId}
 use Rattle.vx_message.specs.declared.Given.{Given}
+use Rattle.vx_message.specs.declared.ItemKind.TheVariants as kinds
 use Rattle.vx_message.specs.declared.Outcome.{Outcome}
 use Rattle.vx_timer.specs.declared.timers.Timer.{Timer}
 use Rattle.vx_request.specs.Stores.{is_request, given_at, reached, is_lost}
-use Rattle.vx_call.specs.declared.call.Call.TheVariants as calls
+use Rattle.vx_call.specs.declared.reply.Task.{Task}
+use Rattle.vx_call.specs.declared.reply.Task.TheVariants as tasks
 use Rattle.vx_call.specs.declared.history.Traced.{Traced}
 use Rattle.vx_data.specs.Ids.{same_message}
 use Rattle.vx_call.specs.Names.{next_entry}
+use Rattle.vx_call.specs.Contexts.{contexts}
 use Rattle.vx_call.specs.Given.{given}
-use Rattle.vx_call.specs.Requests.{Open, is_lost_with, settles, by_due}
-use Rattle.vx_call.specs.Settled.{Settled, no_handlers, settlements}
+use Rattle.vx_call.specs.Askers.{Asker, context_asking}
+use Rattle.vx_call.specs.Requests.{Open, is_lost_with, by_due}
+use Rattle.vx_call.specs.Settled.{Settled, no_handlers, settlement, settlements}
+use Rattle.vx_call.specs.Homes.{Heard, heard}
 use Rattle.vx_call.specs.Items.{outcome_items, outcome_tasks}
 use Rattle.vx_call.proofs.Each.{Each, weaken, Each-both}
 use Rattle.vx_call.proofs.Apart.{Apart, others_apart}
 use Rattle.vx_call.proofs.Opened.{same_open, same_open-swap, Each-by_due}
-use Rattle.vx_call.proofs.Settlings.{settlement}
 use Rattle.vx_call.proofs.ByDue.{by_due-filter}
-use Rattle.vx_context.specs.Stores.{item_of}
-use Rattle.vx_bus_store.specs.Stores.{row_of, timer_of}
-use Rattle.vx_bus_consumers.specs.Lost.{lost_items, lost_tasks, is_timer_of}
+use Rattle.vx_call.proofs.Built.{IsAskedByContext}
+use Rattle.vx_context.specs.Stores.{item_of, handler_item}
+use Rattle.vx_bus_store.specs.Stores.{row_of, timer_of, owner_asking}
+use Rattle.vx_bus_consumers.specs.Lost.{lost_item, lost_task, lost_items, lost_tasks, is_timer_of}
 use Rattle.vx_bus_store.proofs.Images.{filter_mapped}
 
 -- ## Which are lost
 
 -- whether an Unregister settles the request
 abbrev pub ends_with : List Traced → ConsumerId → Open → Bool
-ends_with history id request = settles history (calls.Unregister id) request
+ends_with history id request = is_lost_with history id request request.receiver
 
 lost_with : (history : List Traced) (store : List (ℕ × Given)) (id : ConsumerId) (request : Open) (receiver : Option ConsumerId) → given_at request.id store ≡ given history request.id →
     (reached id receiver && not (is_some (given_at request.id store))) ≡ is_lost_with history id request receiver
@@ -45,13 +52,29 @@ lost_same history store id same request = lost_with history store id request req
 
 -- ## Their outcomes
 
-pub items_lost : (history : List Traced) (place : ℕ) (requests : List Open) → lost_items (next_entry history) place (map row_of requests) ≡ map item_of (outcome_items place (settlements history no_handlers requests))
-items_lost history place [] = refl
-items_lost history place (request ∷ others) = ap (λ items. lost_items (next_entry history) place (row_of request ∷ []) ++ items) (items_lost history (place + 1) others)
+-- what a context hears, if one asked
+abbrev heard_as : Settled → Asker → Option Heard
+heard_as settled asker = option_map (λ context. record { request = settled.request; at = settled.at; context = context; outcome = settled.outcome }) (context_asking asker)
 
-pub tasks_lost : (history : List Traced) (requests : List Open) → lost_tasks (map row_of requests) ≡ outcome_tasks (settlements history no_handlers requests)
-tasks_lost history [] = refl
-tasks_lost history (request ∷ others) = ap (λ tasks. lost_tasks (row_of request ∷ []) ++ tasks) (tasks_lost history others)
+pub items_lost : (history : List Traced) (place : ℕ) (requests : List Open) → Each IsAskedByContext requests →
+    lost_items (contexts history) (next_entry history) place (map row_of requests) ≡ map (item_of history) (outcome_items place (heard (settlements history no_handlers requests)))
+items_lost history place [] asked = refl
+items_lost history place (request ∷ others) asked =
+    let made = contexts history in
+    let at = next_entry history in
+    let context : ContextId = asked.0.0 in
+    let behind = heard (settlements history no_handlers others) in
+    ap (λ asker. lost_item made at place request.id (owner_asking asker) ++ lost_items made at (place + 1) (map row_of others)) asked.0.1
+    ∙ ap (λ items. handler_item made at place context (kinds.Outcome request.id) ∷ items) (items_lost history (place + 1) others asked.1)
+    ∙ sym (ap (λ asker. map (item_of history) (outcome_items place (cons_option (heard_as (settlement history no_handlers request) asker) behind))) asked.0.1)
+
+pub tasks_lost : (history : List Traced) (requests : List Open) → Each IsAskedByContext requests → lost_tasks (map row_of requests) ≡ outcome_tasks (heard (settlements history no_handlers requests))
+tasks_lost history [] asked = refl
+tasks_lost history (request ∷ others) asked =
+    let behind = heard (settlements history no_handlers others) in
+    ap (λ asker. lost_task request.id (owner_asking asker) ++ lost_tasks (map row_of others)) asked.0.1
+    ∙ ap (λ (all : List Task). tasks.Outcome request.id no_handlers ∷ all) (tasks_lost history others asked.1)
+    ∙ sym (ap (λ asker. outcome_tasks (cons_option (heard_as (settlement history no_handlers request) asker) behind)) asked.0.1)
 
 -- ## Their timers
 

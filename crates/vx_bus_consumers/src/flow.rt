@@ -2,17 +2,18 @@
 ghost use Rattle.std.specs.Prelude.{◌≡◌, ◌+◌, ◌-◌, ◌≤◌, ◌++◌, List, length, filter, take, drop};
 ghost use Rattle.vx_call.specs.declared.call.Call.TheVariants as calls;
 ghost use Rattle.vx_call.specs.declared.history.Traced.{Traced};
-ghost use Rattle.vx_call.specs.Items.{is_for, kind_of};
+ghost use Rattle.vx_call.specs.Items.{is_for};
+ghost use Rattle.vx_call.specs.Kinds.{kind_of};
 ghost use Rattle.vx_context.specs.Stands.{IsNext};
 ghost use Rattle.vx_bus_store.specs.Stands.{StoresStand, Follows, HavePlaces, AreOfOneHistory};
 ghost use Rattle.vx_bus_store.specs.Stores.{message_items};
 
 use vx_bus_refusals::{consumer_refusal, fetch_refusal};
-use vx_bus_store::{Bus, is_for};
+use vx_bus_store::{Bus, home_of, is_for};
 use vx_call::{Reply, Task};
 use vx_context::Contexts;
 use vx_data::{ConsumerId, ContextId, EntryNo, PassNo};
-use vx_message::{Item, ItemKind};
+use vx_message::ItemKind;
 use vx_timer::Timers;
 
 /// Holds again the messages of a consumer that are ready and were not taken, and makes no more of them ready. It takes
@@ -59,7 +60,10 @@ pub fn resume(
         Some(handler) => handler,
         None => unreachable!(),
     };
-    let context = handler.consumer.context;
+    let context = match home_of(handler.consumer.owner) {
+        Some(context) => context,
+        None => unreachable!(),
+    };
     let held = handler.flow.held();
     bus.resume(consumer);
     make_ready(contexts, bus, at, consumer, context, held, held);
@@ -88,7 +92,10 @@ pub fn fetch(
         Some(handler) => handler,
         None => unreachable!(),
     };
-    let context = handler.consumer.context;
+    let context = match home_of(handler.consumer.owner) {
+        Some(context) => context,
+        None => unreachable!(),
+    };
     let held = handler.flow.held();
     let freed = handler.flow.freed_by(count);
     bus.fetch(consumer, count);
@@ -107,18 +114,13 @@ fn make_ready(
     count: u64,
 )
     requires { count ≤ contexts.old.room }
-    ensures items { contexts.new ≡ record contexts.old { waiting = contexts.old.waiting ++ message_items at context 0 (take count (drop (length (filter (is_for consumer) bus.now.tasks) - held) (filter (is_for consumer) bus.now.tasks))); room = contexts.new.room } }
+    ensures items { contexts.new ≡ record contexts.old { waiting = contexts.old.waiting ++ message_items contexts.old.made at context 0 (take count (drop (length (filter (is_for consumer) bus.now.tasks) - held) (filter (is_for consumer) bus.now.tasks))); room = contexts.new.room } }
     ensures room { contexts.old.room ≤ contexts.new.room + count }
 {
     let ready = bus.message_count(consumer).saturating_sub(held as usize);
     let messages = bus.tasks().iter().filter(|task| is_for(consumer, task));
     for (place, task) in messages.skip(ready).take(count as usize).enumerate() {
-        contexts.put(Item {
-            entry: at,
-            place: place as u64,
-            context,
-            kind: kind_of(task),
-        });
+        contexts.put(at, place as u64, context, kind_of(task));
     }
 }
 
@@ -127,10 +129,27 @@ fn kind_of(task: &Task) -> ItemKind
     ensures { result ≡ kind_of task.now }
 {
     match task {
+        Task::Start(context) => ItemKind::Start(*context),
         Task::Deliver { consumer, message } => ItemKind::Deliver(*consumer, message.id),
         Task::Outcome {
             request,
             outcome: _,
         } => ItemKind::Outcome(*request),
+        Task::Fire(timer) => ItemKind::Fire(*timer),
+        Task::Run(queued) => ItemKind::Run(*queued),
+        Task::Job(queued) => ItemKind::Job(*queued),
+        Task::JobDone { queued, result: _ } => ItemKind::JobDone(*queued),
+        Task::Connected(_, at) => ItemKind::Connected(*at),
+        Task::PromiseEnd {
+            awaited,
+            promise: _,
+            result: _,
+        } => ItemKind::PromiseEnd(*awaited),
+        Task::DeployEnd {
+            deployment,
+            result: _,
+        } => ItemKind::DeployEnd(*deployment),
+        Task::UndeployEnd(deployment) => ItemKind::UndeployEnd(*deployment),
+        Task::Stop(context) => ItemKind::Stop(*context),
     }
 }

@@ -8,6 +8,7 @@ use vx_bus_store::Bus;
 use vx_call::{Call, Consumer, Reply, Unmade};
 use vx_context::Contexts;
 use vx_data::{ConsumerId, ContextId, EntryNo, PassNo, Text};
+use vx_message::Owner;
 use vx_timer::Timers;
 
 /// Registers a consumer.
@@ -33,7 +34,7 @@ pub fn register(
     let id = ConsumerId(at);
     match bus.add(Consumer {
         id,
-        context,
+        owner: Owner::Context(context),
         address,
         limit,
     }) {
@@ -41,7 +42,7 @@ pub fn register(
         Err(
             Consumer {
                 id: _,
-                context,
+                owner: _,
                 address,
                 limit,
             },

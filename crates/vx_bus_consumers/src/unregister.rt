@@ -7,11 +7,10 @@ ghost use Rattle.vx_bus_store.specs.Stands.{StoresStand, Follows, HavePlaces};
 
 use vx_bus_delivery::{no_handlers, put_outcome};
 use vx_bus_refusals::consumer_refusal;
-use vx_bus_store::Bus;
+use vx_bus_store::{Bus, home_of};
 use vx_call::Reply;
 use vx_context::Contexts;
 use vx_data::{ConsumerId, EntryNo, PassNo};
-use vx_message::Owner;
 use vx_request::OpenRequest;
 use vx_timer::Timers;
 
@@ -47,7 +46,7 @@ fn fail_lost(
     consumer: ConsumerId,
 )
     requires places { HavePlaces contexts.old bus.old }
-    ensures items { contexts.new ≡ record contexts.old { waiting = contexts.old.waiting ++ lost_items at 0 (lost_rows consumer bus.old); room = contexts.new.room } }
+    ensures items { contexts.new ≡ record contexts.old { waiting = contexts.old.waiting ++ lost_items contexts.old.made at 0 (lost_rows consumer bus.old); room = contexts.new.room } }
     ensures tasks { bus.new ≡ record bus.old { tasks = bus.old.tasks ++ lost_tasks (lost_rows consumer bus.old); room = bus.new.room } }
     ensures timers { timers.new ≡ filter (λ timer. not (is_timer_of (lost_rows consumer bus.old) timer)) timers.old }
     ensures items_room { contexts.old.room ≤ contexts.new.room + length (lost_rows consumer bus.old) }
@@ -68,12 +67,12 @@ fn fail_lost(
 fn put_lost(contexts: &mut Contexts, bus: &mut Bus, at: EntryNo, place: u64, row: OpenRequest)
     requires items { 0 < contexts.old.room }
     requires tasks { 0 < bus.old.room }
-    ensures items { contexts.new ≡ record contexts.old { waiting = contexts.old.waiting ++ lost_item at place row.id row.asker; room = contexts.new.room } }
+    ensures items { contexts.new ≡ record contexts.old { waiting = contexts.old.waiting ++ lost_item contexts.old.made at place row.id row.asker; room = contexts.new.room } }
     ensures tasks { bus.new ≡ record bus.old { tasks = bus.old.tasks ++ lost_task row.id row.asker; room = bus.new.room } }
     ensures items_room { contexts.old.room ≤ contexts.new.room + 1 }
     ensures tasks_room { bus.old.room ≤ bus.new.room + 1 }
 {
-    if let Owner::Context(asker) = row.asker {
+    if let Some(asker) = home_of(row.asker) {
         put_outcome(contexts, bus, at, place, row.id, asker, no_handlers());
     }
 }

@@ -11,13 +11,17 @@ use Rattle.vx_timer.specs.declared.timers.Timer.{Timer}
 use Rattle.vx_call.specs.declared.history.Consumer.{Consumer}
 use Rattle.vx_call.specs.declared.history.Traced.{Traced}
 use Rattle.vx_data.specs.declared.ids.ConsumerId.{ConsumerId}
+use Rattle.vx_data.specs.declared.ids.ContextId.{ContextId}
 use Rattle.vx_data.specs.declared.ids.EntryNo.{EntryNo}
 use Rattle.vx_data.specs.declared.ids.MessageId.{MessageId}
+use Rattle.vx_message.specs.declared.Context.{Context}
 use Rattle.vx_message.specs.declared.Item.{Item}
+use Rattle.vx_message.specs.declared.ItemKind.{ItemKind}
 use Rattle.vx_consumer.specs.declared.flow.Arrive.{Arrive}
 use Rattle.vx_consumer.specs.declared.flow.Arrive.TheVariants as arrives
 use Rattle.vx_consumer.specs.Flows.{Counted, counted}
-use Rattle.vx_call.specs.Consumers.{consumers, is_named}
+use Rattle.vx_call.specs.Consumers.{consumers}
+use Rattle.vx_call.specs.Registered.{is_named}
 use Rattle.vx_call.specs.Mailboxes.{is_ready, is_accepted}
 use Rattle.vx_call.specs.Rows.{arrived_at}
 use Rattle.vx_call.proofs.Found.{find_passes}
@@ -34,7 +38,7 @@ use Rattle.vx_message.specs.declared.Message.{Message}
 use Rattle.vx_context.specs.Stores.{ContextStore}
 use Rattle.vx_bus_delivery.specs.declared.passages.Passage.{Passage}
 use Rattle.vx_bus_delivery.specs.declared.passages.Passage.TheVariants as passages
-use Rattle.vx_bus_store.specs.Stores.{BusStore, handler_of, names, handler_in, changed, arrived, held_in, next_arrival, recipient_of, ready_item, AreNamedOnce}
+use Rattle.vx_bus_store.specs.Stores.{BusStore, handler_of, names, handler_in, changed, arrived, held_in, next_arrival, recipient_of, home_item, ready_item, AreNamedOnce}
 use Rattle.vx_bus_delivery.specs.Deliveries.{IsAcceptedBy, turn_in, arrival_of, destination_of, destination_in}
 use Rattle.vx_bus_store.specs.Stands.{BusStands, HaveRoom, AreOfOneHistory}
 use Rattle.vx_bus_delivery.specs.Deliveries.{Accepts}
@@ -88,15 +92,19 @@ held_changed id f (first ∷ others) handler once found =
           omega (arith, rest))
     ] once found
 
-one_more_of : (a : Arrive) (flow : Counted) (item : Item) → is_accepted a ≡ true → (counted a flow).held + length (cond (is_ready a) (item ∷ []) []) ≡ flow.held + 1
-one_more_of arrives.Ready flow item accepts = refl
-one_more_of arrives.Held flow item accepts = omega arith
-one_more_of arrives.Lost flow item accepts = cc
+one_at_home : (made : List Context) (at : EntryNo) (place : ℕ) (home : Option ContextId) (kind : ItemKind) → length (home_item made at place home kind) ≤ 1
+one_at_home made at place None kind = omega arith
+one_at_home made at place (Some context) kind = omega arith
 
--- a message that is accepted is held, or made ready
-pub one_more : (handler : Handler) (at : EntryNo) (place : ℕ) (message : MessageId) → is_accepted (next_arrival handler) ≡ true →
-    (arrived handler.flow).held + length (ready_item at place (recipient_of handler) message) ≡ handler.flow.held + 1
-one_more handler at place message accepts = one_more_of (next_arrival handler) handler.flow _ accepts
+one_more_of : (a : Arrive) (flow : Counted) (items : List Item) → length items ≤ 1 → is_accepted a ≡ true → (counted a flow).held + length (cond (is_ready a) items []) ≤ flow.held + 1
+one_more_of arrives.Ready flow items few accepts = omega (arith, few)
+one_more_of arrives.Held flow items few accepts = omega arith
+one_more_of arrives.Lost flow items few accepts = cc
+
+-- a message that is accepted is held, or made ready, where a context's handler gets it
+pub one_more : (made : List Context) (handler : Handler) (at : EntryNo) (place : ℕ) (message : MessageId) → is_accepted (next_arrival handler) ≡ true →
+    (arrived handler.flow).held + length (ready_item made at place (recipient_of handler) message) ≤ handler.flow.held + 1
+one_more made handler at place message accepts = one_more_of (next_arrival handler) handler.flow _ (one_at_home made at place (recipient_of handler).home _) accepts
 
 -- ## Each consumer is there once
 
@@ -139,14 +147,14 @@ named_once contexts timers bus one id =
 pub accepts_so : (contexts new_contexts : ContextStore) (bus arrived_bus new_bus : BusStore) (at : EntryNo) (id : ConsumerId) (recipient : Recipient) (message : Message) (handler : Handler) →
     Some recipient ≡ option_map recipient_of (handler_in bus.consumers id) → handler_in bus.consumers id ≡ Some handler →
     arrived_bus ≡ record bus { consumers = map (changed id arrived) bus.consumers } →
-    new_contexts ≡ record contexts { waiting = contexts.waiting ++ ready_item at 0 recipient message.id; room = new_contexts.room } →
+    new_contexts ≡ record contexts { waiting = contexts.waiting ++ ready_item contexts.made at 0 recipient message.id; room = new_contexts.room } →
     new_bus ≡ record arrived_bus { tasks = arrived_bus.tasks ++ tasks.Deliver recipient.consumer message ∷ []; room = new_bus.room } →
     Accepts contexts new_contexts bus new_bus at (recipient_of handler) message
 accepts_so contexts new_contexts bus arrived_bus new_bus at id recipient message handler is_recipient found is_arrived is_contexts is_bus =
     let some : Some recipient ≡ Some (recipient_of handler) = is_recipient ∙ ap (option_map recipient_of) found in
     let same : recipient ≡ recipient_of handler = cc in
     record {
-      items = is_contexts ∙ ap (λ (r : Recipient). (let s : ContextStore = record contexts { waiting = contexts.waiting ++ ready_item at 0 r message.id; room = new_contexts.room } in s)) same;
+      items = is_contexts ∙ ap (λ (r : Recipient). (let s : ContextStore = record contexts { waiting = contexts.waiting ++ ready_item contexts.made at 0 r message.id; room = new_contexts.room } in s)) same;
       bus = is_bus
           ∙ ap (λ (s : BusStore). (let t : BusStore = record s { tasks = s.tasks ++ tasks.Deliver recipient.consumer message ∷ []; room = new_bus.room } in t)) is_arrived
           ∙ ap (λ (r : Recipient). (let t : BusStore = record bus { consumers = map (changed id arrived) bus.consumers; tasks = bus.tasks ++ tasks.Deliver r.consumer message ∷ []; room = new_bus.room } in t)) same
@@ -167,15 +175,15 @@ accepts_alone contexts new_contexts bus new_bus at recipient message done =
 pub room_left : (contexts new_contexts : ContextStore) (bus arrived_bus new_bus : BusStore) (at : EntryNo) (id : ConsumerId) (recipient : Recipient) (message : MessageId) (made : List Task) (more : ℕ) →
     AreNamedOnce bus.consumers → IsAcceptedBy bus.consumers id → Some recipient ≡ option_map recipient_of (handler_in bus.consumers id) →
     arrived_bus ≡ record bus { consumers = map (changed id arrived) bus.consumers } → new_bus ≡ record arrived_bus { tasks = made; room = new_bus.room } →
-    contexts.room ≤ new_contexts.room + length (ready_item at 0 recipient message) → arrived_bus.room ≤ new_bus.room + 1 →
+    contexts.room ≤ new_contexts.room + length (ready_item contexts.made at 0 recipient message) → arrived_bus.room ≤ new_bus.room + 1 →
     HaveRoom contexts bus (more + 1) → HaveRoom new_contexts new_bus more
 room_left contexts new_contexts bus arrived_bus new_bus at id recipient message made more once accepts is_recipient is_arrived is_bus items tasks had =
     let it = there bus.consumers id accepts in
     let some : Some recipient ≡ Some (recipient_of it.handler) = is_recipient ∙ ap (option_map recipient_of) it.found in
     let same : recipient ≡ recipient_of it.handler = cc in
-    let ready = ap (λ (r : Recipient). length (ready_item at 0 r message)) same in
+    let ready = ap (λ (r : Recipient). length (ready_item contexts.made at 0 r message)) same in
     let counts = held_changed id arrived bus.consumers it.handler (once id) it.found in
-    let one = one_more it.handler at 0 message it.accepts in
+    let one = one_more contexts.made it.handler at 0 message it.accepts in
     let held : held_in new_bus.consumers ≡ held_in (map (changed id arrived) bus.consumers) = ap (λ (s : BusStore). held_in s.consumers) is_bus ∙ ap (λ (s : BusStore). held_in s.consumers) is_arrived in
     let waits : length new_bus.requests.waiting ≡ length bus.requests.waiting = ap (λ (s : BusStore). length s.requests.waiting) is_bus ∙ ap (λ (s : BusStore). length s.requests.waiting) is_arrived in
     let room : arrived_bus.room ≡ bus.room = ap (λ (s : BusStore). s.room) is_arrived in

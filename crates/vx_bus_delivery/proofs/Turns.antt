@@ -15,10 +15,12 @@ use Rattle.vx_ring.specs.Rings.{consumers_at, choices_at}
 use Rattle.vx_call.specs.declared.call.Call.{Call}
 use Rattle.vx_call.specs.declared.call.Call.TheVariants as calls
 use Rattle.vx_call.specs.declared.history.Consumer.{Consumer}
+use Rattle.vx_call.specs.declared.history.Deed.{Deed}
+use Rattle.vx_call.specs.declared.history.Deed.TheVariants as deeds
 use Rattle.vx_call.specs.declared.history.Traced.{Traced}
 use Rattle.vx_call.specs.History.{lasting, made_by, is_accepted}
 use Rattle.vx_call.specs.Consumers.{consumers, handlers}
-use Rattle.vx_call.specs.Choices.{choice_kind, choice_made, chosen_at, choices, choice, is_empty}
+use Rattle.vx_call.specs.Choices.{choice_kind, choice_by, choice_made, chosen_at, choices, choice, is_empty}
 use Rattle.vx_call.specs.Rows.{ids_of}
 use Rattle.vx_call.proofs.Lasting.{lasting_more, lasting-length}
 use Rattle.vx_bus_delivery.specs.Deliveries.{turn_in}
@@ -41,15 +43,21 @@ one_at_most : (b : Bool) (address : List ℕ) → length (cond b (address ∷ []
 one_at_most true address = omega arith
 one_at_most false address = omega arith
 
-few_choices : (before : List Traced) (call : Call) → length (choice_made before call) ≤ 1
-few_choices before (calls.Send address body options) = one_at_most _ address
-few_choices before (calls.Request context address body options timeout) = one_at_most _ address
-few_choices before _ = omega arith
+few_by_frame : (before : List Traced) (is_sent : Bool) (deed : Deed) → length (choice_by before is_sent deed) ≤ 1
+few_by_frame before is_sent (deeds.Sends address headers body) = one_at_most _ address
+few_by_frame before is_sent (deeds.Requests address headers body at) = one_at_most _ address
+few_by_frame before is_sent _ = omega arith
+
+few_choices : (before : List Traced) (call : Call) (deed : Deed) → length (choice_made before call deed) ≤ 1
+few_choices before (calls.Send address body options) deed = one_at_most _ address
+few_choices before (calls.Request context address body options timeout once) deed = one_at_most _ address
+few_choices before (calls.FrameIn conn frame) deed = few_by_frame before _ deed
+few_choices before _ deed = omega arith
 
 one_choice : (before : List Traced) (new : Traced) → length (made_by choice_kind before new) ≤ 1
 one_choice before new =
-    let few = few_choices before new.entry.call in
-    elim (is_accepted new.entry.reply) as (λ b. length (cond b (choice_made before new.entry.call) []) ≤ 1) [ true ↦ few | false ↦ omega arith ]
+    let few = few_choices before new.entry.call new.mark.deed in
+    elim (is_accepted new.entry.reply) as (λ b. length (cond b (choice_made before new.entry.call new.mark.deed) []) ≤ 1) [ true ↦ few | false ↦ omega arith ]
 
 pub choices_bound : (history : List Traced) (address : List ℕ) → choices history address ≤ length history
 choices_bound history address =

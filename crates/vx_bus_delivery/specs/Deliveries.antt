@@ -47,7 +47,7 @@ IsAcceptedBy handlers id = option_map (λ (h : Handler). is_accepted (next_arriv
 
 -- A message arrives at a consumer, which accepts it: it is made ready, or held.
 pub record Accepts (old_contexts new_contexts : ContextStore) (old_bus new_bus : BusStore) (at : EntryNo) (recipient : Recipient) (message : Message) : Type 0 where
-  pub items : new_contexts ≡ record old_contexts { waiting = old_contexts.waiting ++ ready_item at 0 recipient message.id; room = new_contexts.room }
+  pub items : new_contexts ≡ record old_contexts { waiting = old_contexts.waiting ++ ready_item old_contexts.made at 0 recipient message.id; room = new_contexts.room }
   pub bus : new_bus ≡ record old_bus { consumers = map (changed recipient.consumer arrived) old_bus.consumers; tasks = old_bus.tasks ++ tasks.Deliver recipient.consumer message ∷ []; room = new_bus.room }
 
 -- The choice counts where the message is sent. The message is made ready or held where it reaches a consumer; else no more is done.

@@ -4,6 +4,7 @@ use Rattle.std.specs.Option.{option_or}
 use Rattle.vx_data.specs.declared.ids.EntryNo.{EntryNo}
 use Rattle.vx_data.specs.declared.ids.ContextId.{ContextId}
 use Rattle.vx_data.specs.declared.ids.MessageId.{MessageId}
+use Rattle.vx_message.specs.declared.Context.{Context}
 use Rattle.vx_message.specs.declared.Item.{Item}
 use Rattle.vx_message.specs.declared.ItemKind.TheVariants as kinds
 use Rattle.vx_message.specs.declared.Outcome.{Outcome}
@@ -14,17 +15,17 @@ use Rattle.vx_call.specs.declared.reply.Task.{Task}
 use Rattle.vx_call.specs.declared.reply.Task.TheVariants as tasks
 use Rattle.vx_data.specs.Ids.{same_message}
 use Rattle.vx_call.specs.Settled.{no_handlers, timeout}
-use Rattle.vx_context.specs.Stores.{ContextStore}
+use Rattle.vx_context.specs.Stores.{ContextStore, handler_item}
 use Rattle.vx_bus_store.specs.Stores.{BusStore, asker_in}
 
 -- ## The outcome of a request, for the context that asked, if one did
 
-abbrev pub outcome_item : EntryNo → MessageId → ContextId → Item
-outcome_item at request asker = record { entry = at; place = 0; context = asker; kind = kinds.Outcome request }
+abbrev pub outcome_item : List Context → EntryNo → MessageId → ContextId → Item
+outcome_item made at request asker = handler_item made at 0 asker (kinds.Outcome request)
 
-abbrev pub outcome_items : EntryNo → MessageId → Option ContextId → List Item
-outcome_items at request None = []
-outcome_items at request (Some asker) = outcome_item at request asker ∷ []
+abbrev pub outcome_items : List Context → EntryNo → MessageId → Option ContextId → List Item
+outcome_items made at request None = []
+outcome_items made at request (Some asker) = outcome_item made at request asker ∷ []
 
 abbrev pub outcome_tasks : MessageId → Outcome → Option ContextId → List Task
 outcome_tasks request outcome None = []
@@ -43,7 +44,7 @@ asker_there request bus = asker_in (find (is_request request) bus.requests.waiti
 
 -- the request ends where it is open, its timer with it, and its outcome waits for the asker
 pub record Settles (old_contexts new_contexts : ContextStore) (old_timers new_timers : List Timer) (old_bus new_bus : BusStore) (at : EntryNo) (request : MessageId) (outcome : Outcome) : Type 0 where
-  pub items : new_contexts ≡ record old_contexts { waiting = old_contexts.waiting ++ outcome_items at request (asker_there request old_bus); room = new_contexts.room }
+  pub items : new_contexts ≡ record old_contexts { waiting = old_contexts.waiting ++ outcome_items old_contexts.made at request (asker_there request old_bus); room = new_contexts.room }
   pub timers : new_timers ≡ without_timer request (asker_there request old_bus) old_timers
   pub tasks : new_bus ≡ record old_bus { requests = new_bus.requests; tasks = old_bus.tasks ++ outcome_tasks request outcome (asker_there request old_bus); room = new_bus.room }
   pub left : new_bus.requests.waiting ≡ filter (λ row. not (is_request request row)) old_bus.requests.waiting
@@ -52,7 +53,7 @@ pub record Settles (old_contexts new_contexts : ContextStore) (old_timers new_ti
 
 -- a request's time is up: it ends, and its outcome waits for the asker
 pub record TimesOut (old_contexts new_contexts : ContextStore) (old_bus new_bus : BusStore) (at : EntryNo) (place : ℕ) (request : MessageId) (asker : ContextId) : Type 0 where
-  pub items : new_contexts ≡ record old_contexts { waiting = old_contexts.waiting ++ record { entry = at; place = place; context = asker; kind = kinds.Outcome request } ∷ []; room = new_contexts.room }
+  pub items : new_contexts ≡ record old_contexts { waiting = old_contexts.waiting ++ handler_item old_contexts.made at place asker (kinds.Outcome request) ∷ []; room = new_contexts.room }
   pub tasks : new_bus ≡ record old_bus { tasks = old_bus.tasks ++ tasks.Outcome request timeout ∷ []; requests = new_bus.requests; room = new_bus.room }
   pub left : new_bus.requests.waiting ≡ filter (λ row. not (is_request request row)) old_bus.requests.waiting
   pub ended : (id : MessageId) → ended_at id new_bus.requests.ended ≡ option_or (ended_at id old_bus.requests.ended) (if same_message id request then Some at else None)
@@ -65,7 +66,7 @@ pub record IsLeftAlone (old new : BusStore) : Type 0 where
 
 -- the request that this entry makes has ended at once, and its outcome waits for the asker
 pub record EndsUnheard (old_contexts new_contexts : ContextStore) (old_bus new_bus : BusStore) (at : EntryNo) (asker : ContextId) : Type 0 where
-  pub items : new_contexts ≡ record old_contexts { waiting = old_contexts.waiting ++ outcome_item at (record { 0 = at }) asker ∷ []; room = new_contexts.room }
+  pub items : new_contexts ≡ record old_contexts { waiting = old_contexts.waiting ++ outcome_item old_contexts.made at (record { 0 = at }) asker ∷ []; room = new_contexts.room }
   pub tasks : new_bus ≡ record old_bus { requests = new_bus.requests; given = new_bus.given; tasks = old_bus.tasks ++ tasks.Outcome (record { 0 = at }) no_handlers ∷ []; room = new_bus.room }
   pub given : (id : MessageId) → given_at id new_bus.given ≡ given_at id old_bus.given
   pub left : new_bus.requests.waiting ≡ old_bus.requests.waiting

@@ -23,7 +23,7 @@ use vx_call::{Task, To};
 use vx_consumer::Arrive;
 use vx_context::Contexts;
 use vx_data::{ConsumerId, EntryNo, NoMemory, Text};
-use vx_message::{Item, ItemKind, Message};
+use vx_message::{ItemKind, Message};
 
 /// Makes room for so many tasks more, beside the outcomes of the requests that wait and the messages that are held.
 pub fn make_room(contexts: &mut Contexts, bus: &mut Bus, more: usize) -> Result<(), NoMemory>
@@ -136,18 +136,18 @@ pub fn hand(
 )
     requires items { is_ready recipient.arrive ≡ true → 0 < contexts.old.room }
     requires tasks { 0 < bus.old.room }
-    ensures items { contexts.new ≡ record contexts.old { waiting = contexts.old.waiting ++ ready_item at place recipient message.id; room = contexts.new.room } }
+    ensures items { contexts.new ≡ record contexts.old { waiting = contexts.old.waiting ++ ready_item contexts.old.made at place recipient message.id; room = contexts.new.room } }
     ensures tasks { bus.new ≡ record bus.old { tasks = bus.old.tasks ++ tasks.Deliver recipient.consumer message ∷ []; room = bus.new.room } }
-    ensures items_room { contexts.old.room ≤ contexts.new.room + length (ready_item at place recipient message.id) }
+    ensures items_room { contexts.old.room ≤ contexts.new.room + length (ready_item contexts.old.made at place recipient message.id) }
     ensures tasks_room { bus.old.room ≤ bus.new.room + 1 }
 {
-    if recipient.arrive == Arrive::Ready {
-        contexts.put(Item {
-            entry: at,
+    if let (Arrive::Ready, Some(context)) = (recipient.arrive, recipient.home) {
+        contexts.put(
+            at,
             place,
-            context: recipient.context,
-            kind: ItemKind::Deliver(recipient.consumer, message.id),
-        });
+            context,
+            ItemKind::Deliver(recipient.consumer, message.id),
+        );
     }
     bus.put(Task::Deliver {
         consumer: recipient.consumer,

@@ -5,6 +5,7 @@ ghost use Rattle.vx_bus_store.specs.Stores.{coded_in};
 ghost use Rattle.vx_message.specs.declared.ItemKind.TheVariants as kinds;
 ghost use Rattle.vx_call.specs.declared.reply.Task.TheVariants as tasks;
 ghost use Rattle.vx_call.specs.Settled as machine;
+ghost use Rattle.vx_context.specs.Stores.{handler_item};
 ghost use Rattle.vx_bus_store.specs.Stands.{HavePlaces, HaveRoom};
 ghost use Rattle.vx_bus_delivery.specs.Ending.{Settles};
 
@@ -13,7 +14,7 @@ use vx_bus_store::Bus;
 use vx_call::{Options, Task};
 use vx_context::Contexts;
 use vx_data::{Body, ContextId, EntryNo, MessageId, NoMemory, Text};
-use vx_message::{Failure, FailureKind, Item, ItemKind, Outcome};
+use vx_message::{Failure, FailureKind, ItemKind, Outcome};
 use vx_timer::Timers;
 
 /// The outcome of a request that nobody can answer.
@@ -67,17 +68,12 @@ pub fn put_outcome(
 )
     requires items { 0 < contexts.old.room }
     requires tasks { 0 < bus.old.room }
-    ensures items { contexts.new ≡ record contexts.old { waiting = contexts.old.waiting ++ record { entry = at; place = place; context = asker; kind = kinds.Outcome request } ∷ []; room = contexts.new.room } }
+    ensures items { contexts.new ≡ record contexts.old { waiting = contexts.old.waiting ++ handler_item contexts.old.made at place asker (kinds.Outcome request) ∷ []; room = contexts.new.room } }
     ensures tasks { bus.new ≡ record bus.old { tasks = bus.old.tasks ++ tasks.Outcome request outcome ∷ []; room = bus.new.room } }
     ensures items_room { contexts.old.room ≤ contexts.new.room + 1 }
     ensures tasks_room { bus.old.room ≤ bus.new.room + 1 }
 {
-    contexts.put(Item {
-        entry: at,
-        place,
-        context: asker,
-        kind: ItemKind::Outcome(request),
-    });
+    contexts.put(at, place, asker, ItemKind::Outcome(request));
     bus.put(Task::Outcome { request, outcome });
 }
 

@@ -2,9 +2,11 @@
 
 ghost use Rattle.std.specs.Prelude.{◌≡◌, ◌<◌, ◌≤◌, List, length, find, nat_lt, None};
 ghost use Rattle.std.specs.List.{list_any};
+ghost use Rattle.vx_data.specs.declared.ids.PassNo.{PassNo};
 ghost use Rattle.vx_message.specs.Codecs.{is_codec};
 ghost use Rattle.vx_message.specs.Rules.{rules_of, verdict_bytes};
 ghost use Rattle.vx_call.specs.declared.history.Traced.{Traced};
+ghost use Rattle.vx_call.specs.Built.{AreBuilt};
 ghost use Rattle.vx_call.specs.Refusals as machine;
 ghost use Rattle.vx_call.specs.Rows as rows;
 ghost use Rattle.vx_context.specs.Stands.{ContextsStand};
@@ -14,7 +16,7 @@ use vx_bus_store::Bus;
 use vx_call::{CodecForm, Options, Refusal, Side, Verdict};
 use vx_context::{Contexts, no_context, not_your_context};
 use vx_data::{Body, ConsumerId, ContextId, MessageId, PassNo, RuleId, Text};
-use vx_message::{MAX_ADDED_BYTES, MAX_RULES};
+use vx_message::{MAX_ADDED_BYTES, MAX_RULES, Owner};
 
 /// The longest timeout, in ms.
 const MAX_TIMEOUT: u64 = 1_000_000_000_000;
@@ -212,6 +214,17 @@ fn no_consumer(bus: &Bus, id: ConsumerId) -> Option<Refusal>
     }
 }
 
+// `NotYours`, of what a context or a connection owns.
+fn not_your_owner(contexts: &Contexts, pass: PassNo, owner: Owner) -> Option<Refusal>
+    ensures { (history : List Traced) → ContextsStand contexts.now history → result ≡ machine.not_your_owner history pass owner }
+{
+    match owner {
+        Owner::Context(context) => not_your_context(contexts, pass, context),
+        Owner::Conn(_) => Some(Refusal::NotYours(owner)),
+        Owner::Pass(_) => None,
+    }
+}
+
 fn not_your_consumer(
     contexts: &Contexts,
     bus: &Bus,
@@ -221,7 +234,7 @@ fn not_your_consumer(
     ensures { (history : List Traced) → ContextsStand contexts.now history → BusStands bus.now history → result ≡ machine.not_your_consumer history pass id }
 {
     match bus.handler(id) {
-        Some(handler) => not_your_context(contexts, pass, handler.consumer.context),
+        Some(handler) => not_your_owner(contexts, pass, handler.consumer.owner),
         None => None,
     }
 }
@@ -283,7 +296,7 @@ pub fn register_refusal(
     address: &Text,
     limit: u32,
 ) -> Option<Refusal>
-    ensures { (history : List Traced) → ContextsStand contexts.now history → result ≡ rows.register_refusal history pass context address.now limit }
+    ensures { (history : List Traced) → AreBuilt history → ContextsStand contexts.now history → result ≡ rows.register_refusal history pass context address.now limit }
 {
     no_context(contexts, context)
         .or(not_your_context(contexts, pass, context))
@@ -298,7 +311,7 @@ pub fn consumer_refusal(
     pass: PassNo,
     id: ConsumerId,
 ) -> Option<Refusal>
-    ensures { (history : List Traced) → ContextsStand contexts.now history → BusStands bus.now history → result ≡ rows.consumer_refusal history pass id }
+    ensures { (history : List Traced) → AreBuilt history → ContextsStand contexts.now history → BusStands bus.now history → result ≡ rows.consumer_refusal history pass id }
 {
     no_consumer(bus, id).or(not_your_consumer(contexts, bus, pass, id))
 }
@@ -311,14 +324,14 @@ pub fn fetch_refusal(
     id: ConsumerId,
     count: u32,
 ) -> Option<Refusal>
-    ensures { (history : List Traced) → ContextsStand contexts.now history → BusStands bus.now history → result ≡ rows.fetch_refusal history pass id count }
+    ensures { (history : List Traced) → AreBuilt history → ContextsStand contexts.now history → BusStands bus.now history → result ≡ rows.fetch_refusal history pass id count }
 {
     consumer_refusal(contexts, bus, pass, id).or(bad_fetch(count))
 }
 
 /// Why a Send or a Publish is refused.
 pub fn send_refusal(bus: &Bus, address: &Text, body: &Body, options: &Options) -> Option<Refusal>
-    ensures { (history : List Traced) → BusStands bus.now history → result ≡ rows.send_refusal history address.now body.now options.now }
+    ensures { (history : List Traced) (pass : PassNo) → AreBuilt history → BusStands bus.now history → result ≡ rows.send_refusal history pass address.now body.now options.now }
 {
     no_such_codec(bus, options)
         .or(bad_address(address))
@@ -336,7 +349,7 @@ pub fn request_refusal(
     options: &Options,
     timeout: u64,
 ) -> Option<Refusal>
-    ensures { (history : List Traced) → ContextsStand contexts.now history → BusStands bus.now history → result ≡ rows.request_refusal history pass context address.now body.now options.now timeout }
+    ensures { (history : List Traced) → AreBuilt history → ContextsStand contexts.now history → BusStands bus.now history → result ≡ rows.request_refusal history pass context address.now body.now options.now timeout }
 {
     no_context(contexts, context)
         .or(no_such_codec(bus, options))
@@ -355,7 +368,7 @@ pub fn reply_refusal(
     body: &Body,
     options: &Options,
 ) -> Option<Refusal>
-    ensures { (history : List Traced) → ContextsStand contexts.now history → BusStands bus.now history → result ≡ rows.reply_refusal history pass message body.now options.now }
+    ensures { (history : List Traced) → AreBuilt history → ContextsStand contexts.now history → BusStands bus.now history → result ≡ rows.reply_refusal history pass message body.now options.now }
 {
     no_message(bus, message)
         .or(not_request(bus, message))
@@ -373,7 +386,7 @@ pub fn fail_refusal(
     message: MessageId,
     text: &Text,
 ) -> Option<Refusal>
-    ensures { (history : List Traced) → ContextsStand contexts.now history → BusStands bus.now history → result ≡ rows.fail_refusal history pass message text.now }
+    ensures { (history : List Traced) → AreBuilt history → ContextsStand contexts.now history → BusStands bus.now history → result ≡ rows.fail_refusal history pass message text.now }
 {
     no_message(bus, message)
         .or(not_request(bus, message))
@@ -393,7 +406,7 @@ pub fn reply_request_refusal(
     options: &Options,
     timeout: u64,
 ) -> Option<Refusal>
-    ensures { (history : List Traced) → ContextsStand contexts.now history → BusStands bus.now history → result ≡ rows.reply_request_refusal history pass message context body.now options.now timeout }
+    ensures { (history : List Traced) → AreBuilt history → ContextsStand contexts.now history → BusStands bus.now history → result ≡ rows.reply_request_refusal history pass message context body.now options.now timeout }
 {
     no_message(bus, message)
         .or(not_request(bus, message))
@@ -408,7 +421,7 @@ pub fn reply_request_refusal(
 
 /// Why an AddCodec is refused.
 pub fn add_codec_refusal(bus: &Bus, name: &Text, form: &CodecForm) -> Option<Refusal>
-    ensures refusal { (history : List Traced) → BusStands bus.now history → result ≡ rows.add_codec_refusal history name.now form.now }
+    ensures refusal { (history : List Traced) (pass : PassNo) → AreBuilt history → BusStands bus.now history → result ≡ rows.add_codec_refusal history pass name.now form.now }
     ensures free { result ≡ None → find (is_codec name.now) bus.now.codecs ≡ None }
 {
     bad_address(name)
@@ -420,7 +433,7 @@ pub fn add_codec_refusal(bus: &Bus, name: &Text, form: &CodecForm) -> Option<Ref
 
 /// Why an AddRule is refused.
 pub fn add_rule_refusal(bus: &Bus, side: Side, verdict: &Verdict) -> Option<Refusal>
-    ensures refusal { (history : List Traced) → BusStands bus.now history → result ≡ rows.add_rule_refusal history side verdict.now }
+    ensures refusal { (history : List Traced) (pass : PassNo) → AreBuilt history → BusStands bus.now history → result ≡ rows.add_rule_refusal history pass side verdict.now }
     ensures few { result ≡ None → length (rules_of side bus.now.rules) < 64 }
     ensures small { result ≡ None → verdict_bytes verdict.now ≤ 1024 }
 {

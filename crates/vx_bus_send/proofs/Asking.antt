@@ -12,6 +12,7 @@ use Rattle.vx_message.specs.declared.Options.{Options}
 use Rattle.vx_message.specs.declared.Owner.TheVariants as owners
 use Rattle.vx_message.specs.declared.Outcome.{Outcome}
 use Rattle.vx_message.specs.declared.Outcome.TheVariants as outcomes
+use Rattle.vx_consumer.specs.Mailboxes as moves
 use Rattle.vx_timer.specs.declared.timers.Timer.{Timer}
 use Rattle.vx_timer.specs.Order as timer_order
 use Rattle.vx_request.specs.declared.requests.OpenRequest.{OpenRequest}
@@ -20,14 +21,21 @@ use Rattle.vx_call.specs.declared.call.Call.TheVariants as calls
 use Rattle.vx_call.specs.declared.reply.Reply.TheVariants as replies
 use Rattle.vx_call.specs.declared.reply.To.TheVariants as reached
 use Rattle.vx_call.specs.declared.history.Traced.{Traced}
-use Rattle.vx_call.specs.History.{plain_entry}
+use Rattle.vx_call.specs.History.{plain_entry, no_mark}
+use Rattle.vx_call.specs.Built.{IsBuilt, AreBuilt}
 use Rattle.vx_call.specs.Names.{next_message}
-use Rattle.vx_call.specs.Requests.{Open, now, unsettled, by_due}
+use Rattle.vx_call.specs.Time.{now}
+use Rattle.vx_call.specs.Given as given
+use Rattle.vx_call.specs.Askers.{Asker}
+use Rattle.vx_call.specs.Askers as askers
+use Rattle.vx_call.specs.Mailboxes.{move_if}
+use Rattle.vx_call.specs.Requests.{Open, opened_again, unsettled, by_due}
 use Rattle.vx_call.specs.Refusals.{unless_refused}
 use Rattle.vx_call.specs.Settled.{replied}
 use Rattle.vx_call.specs.Rows.{reply_request_refusal}
 use Rattle.vx_call.specs.Machine.{row}
 use Rattle.vx_call.proofs.Found.{earlier_name}
+use Rattle.vx_call.proofs.Built.{built_more}
 use Rattle.vx_call.proofs.Mailboxes.{mailbox_unmoved}
 use Rattle.vx_call.proofs.Opened.{open_key, unsettled_earlier}
 use Rattle.vx_call.proofs.ByDue.{comes_before, put_in_order, by_due-push_greatest}
@@ -35,7 +43,8 @@ use Rattle.vx_context.specs.Stores.{ContextStore}
 use Rattle.vx_bus_store.specs.Stores.{BusStore, coded_in, timer_of}
 use Rattle.vx_bus_store.specs.Stands.{BusStands, TimersStand, StoresStand, Follows, IsAt}
 use Rattle.vx_bus_delivery.specs.Ending.{Settles}
-use Rattle.vx_bus_store.proofs.Frames.{numbers_left}
+use Rattle.vx_bus_store.proofs.Frames.{consumer_kept, numbers_left}
+use Rattle.vx_bus_send.proofs.Stays.{settled_alone}
 use Rattle.vx_bus_send.proofs.Settling.{coded_same, is_one, one_open, found_name, found_each, Ends, contexts_settled, timers_settled, bus_settled}
 
 -- ## What a call did, once it is known how it ended
@@ -60,11 +69,11 @@ put-map request (other ∷ others) =
     ]
 
 -- the timers, with that of a request that the next entry opens
-pub timer_set : (timers new_timers : List Timer) (history : List Traced) (at : EntryNo) (moment timeout : ℕ) (context : ContextId) (receiver : Option ConsumerId) → TimersStand timers history → IsAt at moment history →
+pub timer_set : (timers new_timers : List Timer) (history : List Traced) (at : EntryNo) (moment timeout : ℕ) (asker : Asker) (receiver : Option ConsumerId) (home : Option ContextId) → TimersStand timers history → IsAt at moment history →
     new_timers ≡ timer_order.put (record { id = at; due = moment + timeout; period = None }) timers →
-    new_timers ≡ map timer_of (by_due (unsettled history ++ record { id = next_message history; asker = context; due = now history + timeout; receiver = receiver } ∷ []))
-timer_set timers new_timers history at moment timeout context receiver stands is_at is_new =
-    let request : Open = record { id = next_message history; asker = context; due = now history + timeout; receiver = receiver } in
+    new_timers ≡ map timer_of (by_due (unsettled history ++ record { id = next_message history; asker = asker; due = now history + timeout; receiver = receiver; home = home } ∷ []))
+timer_set timers new_timers history at moment timeout asker receiver home stands is_at is_new =
+    let request : Open = record { id = next_message history; asker = asker; due = now history + timeout; receiver = receiver; home = home } in
     let timer : ℕ → ℕ → Timer = λ n m. record { id = record { 0 = n }; due = m + timeout; period = None } in
     is_new
     ∙ ap (λ n. timer_order.put (timer n moment) timers) is_at.next
@@ -75,38 +84,37 @@ timer_set timers new_timers history at moment timeout context receiver stands is
 
 -- ## ReplyRequest
 
--- the request that a ReplyRequest opens
-abbrev pub asked_again : List Traced → ContextId → ℕ → Open
-asked_again history context timeout = record { id = next_message history; asker = context; due = now history + timeout; receiver = None }
-
-ends_reply_request : (history : List Traced) (pass : PassNo) (message : MessageId) (context : ContextId) (body : Tree) (options : Options) (timeout : ℕ) →
-    Ends history (plain_entry pass (calls.ReplyRequest message context body options timeout) (replies.Asked reached.Asker)) message (replied history body options (Some (next_message history))) (asked_again history context timeout ∷ [])
-ends_reply_request history pass message context body options timeout = record {
-  contexts = refl;
-  held = refl;
-  finished = λ held. refl;
-  consumers = record { registered = refl; kept = λ consumer. refl };
-  numbers = numbers_left history _ (λ consumer. mailbox_unmoved history (plain_entry pass (calls.ReplyRequest message context body options timeout) (replies.Asked reached.Asker)) consumer refl);
-  choices = refl;
-  given = refl;
-  codecs = record { added = refl; kept = λ codec. refl };
-  rules = record { added = refl; kept = λ rule. refl };
-  tasks = refl;
-  untaken = λ task. refl;
-  items = refl;
-  kept = λ item. refl;
-  settled = refl;
-  opened = refl;
-  closed = λ one. refl;
-}
+ends_reply_request : (history : List Traced) (pass : PassNo) (message : MessageId) (context : ContextId) (body : Tree) (options : Options) (timeout : ℕ) → AreBuilt history →
+    Ends history (plain_entry pass (calls.ReplyRequest message context body options timeout) (replies.Asked reached.Asker) no_mark) message (replied history body options (Some (next_message history)))
+    (opened_again history (askers.context context) timeout message ∷ [])
+ends_reply_request history pass message context body options timeout built =
+    let entry = plain_entry pass (calls.ReplyRequest message context body options timeout) (replies.Asked reached.Asker) no_mark in
+    let one : IsBuilt entry = record { call = refl; mark = refl } in
+    record {
+      built = one;
+      contexts = record { items = record { contexts = refl; queued = refl }; pools = refl; held = refl; finished = λ held. refl };
+      consumers = record { registered = refl; kept = λ consumer. consumer_kept history entry consumer built one refl };
+      numbers = numbers_left history entry (λ consumer. mailbox_unmoved history entry consumer (ap (λ b. move_if b moves.ends) (consumer_kept history entry consumer built one refl)));
+      choices = refl;
+      given = refl;
+      codecs = record { added = refl; kept = λ codec. refl };
+      rules = record { added = refl; kept = λ rule. refl };
+      tasks = refl;
+      untaken = λ task. refl;
+      items = refl;
+      kept = λ item. refl;
+      settled = refl;
+      opened = refl;
+      closed = λ request. settled_alone (is_one message request) request.asker;
+    }
 
 -- it is another than the one that it replies to
 is_another : (history : List Traced) (message : MessageId) (context : ContextId) (timeout : ℕ) (found : Open) → one_open history message ≡ Some found →
-    filter (λ one. not (is_one message one)) (asked_again history context timeout ∷ []) ≡ asked_again history context timeout ∷ []
+    filter (λ one. not (is_one message one)) (opened_again history (askers.context context) timeout message ∷ []) ≡ opened_again history (askers.context context) timeout message ∷ []
 is_another history message context timeout found is_found =
     let same = found_name history message found is_found in
     let before = found_each (λ (request : Open). open_key request < length history) (is_one message) (unsettled history) found (unsettled_earlier history) is_found in
-    ap (λ b. cond (not b) (asked_again history context timeout ∷ []) []) (earlier_name message.0.0 (length history) (omega arith))
+    ap (λ b. cond (not b) (opened_again history (askers.context context) timeout message ∷ []) []) (earlier_name message.0.0 (length history) (omega arith))
 
 -- one more row in a bus that else stays
 opened_part : (old new_bus : BusStore) (row : OpenRequest) →
@@ -124,23 +132,25 @@ pub asks_again : (contexts new_contexts : ContextStore) (timers set_timers new_t
     new_bus ≡ record settled_bus { requests = record settled_bus.requests { waiting = settled_bus.requests.waiting ++ record { id = record { 0 = at }; asker = owners.Context context; receiver = None } ∷ []; room = new_bus.requests.room } } →
     Follows new_contexts new_timers new_bus history pass (calls.ReplyRequest message context body options timeout) (replies.Asked reached.Asker)
 asks_again contexts new_contexts timers set_timers new_timers old bus settled_bus new_bus history at moment pass message context body options timeout made was stands is_at accepted is_made is_set is_settled is_opened =
-    let entry = plain_entry pass (calls.ReplyRequest message context body options timeout) (replies.Asked reached.Asker) in
+    let entry = plain_entry pass (calls.ReplyRequest message context body options timeout) (replies.Asked reached.Asker) no_mark in
     let outcome : Outcome = replied history body options (Some (next_message history)) in
-    let opens = asked_again history context timeout ∷ [] in
+    let opens = opened_again history (askers.context context) timeout message ∷ [] in
     let row : ℕ → OpenRequest = λ n. record { id = record { 0 = record { 0 = n } }; asker = owners.Context context; receiver = None } in
     let again : ℕ → Tree → Outcome = λ n coded_body. outcomes.Ok options.headers coded_body (Some (record { 0 = record { 0 = n } })) in
     let same : made ≡ outcome =
     is_made ∙ ap (λ n. again n (coded_in old.codecs options.codec body)) is_at.next ∙ ap (again (length history)) (coded_same old history options.codec body was) in
     let P : Outcome → Type 0 = Settles contexts new_contexts set_timers new_timers bus settled_bus at message in
     let settles = subst P same is_settled in
-    let ends = ends_reply_request history pass message context body options timeout in
+    let ends = ends_reply_request history pass message context body options timeout stands.built in
     record {
       answered = ap (λ refusal. unless_refused refusal (replies.Asked reached.Asker)) (sym accepted);
       stores = record {
+        built = built_more history entry stands.built ends.built;
         contexts = contexts_settled contexts new_contexts bus history entry at message outcome opens ends is_at.next stands.contexts stands.bus settles.items;
-        timers = timers_settled set_timers new_timers bus history entry message outcome opens ends stands.bus (timer_set timers set_timers history at moment timeout context None stands.timers is_at is_set)
+        timers = timers_settled set_timers new_timers bus history entry message outcome opens stands.built ends stands.bus
+            (timer_set timers set_timers history at moment timeout (askers.context context) None (given.asker history message) stands.timers is_at is_set)
             (is_another history message context timeout) settles.timers;
-        bus = bus_settled bus new_bus history entry at message outcome opens ends is_at.next stands.bus
+        bus = bus_settled bus new_bus history entry at message outcome opens stands.built ends is_at.next stands.bus
             (opened_part settled_bus new_bus (row at.0) is_opened ∙ ap (λ (s : BusStore). record s { requests = new_bus.requests; room = new_bus.room }) settles.tasks)
             (ap (λ (s : BusStore). s.requests.waiting) is_opened
             ∙ ap (λ rows. rows ++ row at.0 ∷ []) settles.left

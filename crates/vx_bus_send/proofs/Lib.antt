@@ -1,3 +1,4 @@
+pub mod Stays
 pub mod Settling
 pub mod Asking
 pub mod Destinations

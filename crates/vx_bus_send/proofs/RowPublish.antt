@@ -6,6 +6,7 @@ use Rattle.std.proofs.lemmas.List.{append-nil}
 use Rattle.vx_data.specs.declared.ids.EntryNo.{EntryNo}
 use Rattle.vx_data.specs.declared.ids.PassNo.{PassNo}
 use Rattle.vx_data.specs.declared.ids.ConsumerId.{ConsumerId}
+use Rattle.vx_data.specs.declared.ids.ContextId.{ContextId}
 use Rattle.vx_data.specs.Tree.{Tree}
 use Rattle.vx_message.specs.declared.Item.{Item}
 use Rattle.vx_message.specs.declared.ItemKind.TheVariants as kinds
@@ -22,25 +23,33 @@ use Rattle.vx_call.specs.declared.call.Call.TheVariants as calls
 use Rattle.vx_call.specs.declared.reply.Reply.TheVariants as replies
 use Rattle.vx_call.specs.declared.reply.Task.{Task}
 use Rattle.vx_call.specs.declared.history.Consumer.{Consumer}
+use Rattle.vx_call.specs.declared.history.Deed.TheVariants as deeds
 use Rattle.vx_call.specs.declared.history.Traced.{Traced}
-use Rattle.vx_call.specs.History.{plain_entry}
+use Rattle.vx_call.specs.History.{plain_entry, no_mark}
+use Rattle.vx_call.specs.Built.{IsBuilt, AreBuilt}
+use Rattle.vx_call.specs.Contexts as contexts_of
+use Rattle.vx_call.specs.Owners.{context_owning, is_context_owner}
+use Rattle.vx_call.specs.Homes.{homes}
 use Rattle.vx_call.specs.Names.{next_entry}
-use Rattle.vx_call.specs.Consumers.{consumers, handlers, is_at, is_named}
+use Rattle.vx_call.specs.Registered.{is_named}
+use Rattle.vx_call.specs.Consumers.{consumers, handlers, is_at}
 use Rattle.vx_call.specs.Rules.{passed}
 use Rattle.vx_call.specs.Messages.{sent, received}
 use Rattle.vx_call.specs.Arrivals.{reached, reaches}
 use Rattle.vx_call.specs.Mailboxes.{arrival_at, is_ready, is_accepted, readied, accepting}
 use Rattle.vx_call.specs.Requests.{unsettled, by_due}
-use Rattle.vx_call.specs.Items.{item_made, deliveries, delivered, delivery_tasks}
+use Rattle.vx_call.specs.Items.{item_by, deliveries, delivered, delivery_tasks}
 use Rattle.vx_call.specs.Refusals.{unless_refused}
 use Rattle.vx_call.specs.Rows.{ids_of, send_refusal}
-use Rattle.vx_call.proofs.Each.{Each, Each-both, Each-find, passing}
+use Rattle.vx_call.proofs.Each.{Each, Each-both, Each-find, weaken, passing}
 use Rattle.vx_call.proofs.Found.{find_passes, find_kept}
 use Rattle.vx_call.proofs.Filters.{filter-map}
 use Rattle.vx_call.proofs.Consumers.{IsLive, handlers_live, same_consumer-true}
 use Rattle.vx_call.specs.Consumers as live_ones
+use Rattle.vx_call.proofs.Arrivals.{accepting_live}
+use Rattle.vx_call.proofs.Built.{live_of_context}
 use Rattle.vx_call.proofs.Mailboxes.{mailbox_moved}
-use Rattle.vx_context.specs.Stores.{ContextStore, item_of}
+use Rattle.vx_context.specs.Stores.{ContextStore, item_of, handler_item}
 use Rattle.vx_context.specs.Stands.{IsNext}
 use Rattle.vx_bus_store.specs.declared.bus.Handler.{Handler}
 use Rattle.vx_bus_store.specs.declared.bus.Recipient.{Recipient}
@@ -49,9 +58,11 @@ use Rattle.vx_bus_delivery.specs.declared.passages.Passage.TheVariants as passag
 use Rattle.vx_bus_send.specs.declared.publish.Parcel.{Parcel}
 use Rattle.vx_bus_delivery.specs.Passages.{passage_of}
 use Rattle.vx_bus_send.specs.Published.{parcel_for, parcel_items, parcel_task, ready_count}
-use Rattle.vx_bus_store.specs.Stores.{BusStore, handler_of, recipient_of, next_arrival, is_handler_at, changed_at, arrived, held_in, message_in, passed_in, timer_of}
+use Rattle.vx_bus_store.specs.Stores.{BusStore, handler_of, recipient_of, home_item, next_arrival, is_handler_at, changed_at, arrived, held_in, message_in, passed_in, timer_of}
 use Rattle.vx_bus_store.specs.Stands.{BusStands, StoresStand, Follows, HavePlaces, HaveRoom}
-use Rattle.vx_bus_store.proofs.Frames.{choices_left}
+use Rattle.vx_bus_store.proofs.Images.{filter_mapped}
+use Rattle.vx_bus_store.proofs.Frames.{consumer_kept, choices_left}
+use Rattle.vx_bus_send.proofs.Stays.{request_stays, arrives_here, home_first}
 use Rattle.vx_bus_send.proofs.Destinations.{passage_is}
 use Rattle.vx_bus_send.proofs.Passing.{IsPassed, GoesOut, goes_out, with_arrival, handlers_after}
 use Rattle.vx_bus_send.proofs.Sending.{same_items, all_ended}
@@ -59,27 +70,29 @@ use Rattle.vx_bus_send.proofs.Sending.{same_items, all_ended}
 -- ## The entry
 
 abbrev entry_of : PassNo → List ℕ → Tree → Options → List ConsumerId → Traced
-entry_of pass address body options names = plain_entry pass (calls.Publish address body options) (replies.Published names)
+entry_of pass address body options names = plain_entry pass (calls.Publish address body options) (replies.Published names) no_mark
 
-passed_publish : (history : List Traced) (pass : PassNo) (address : List ℕ) (body : Tree) (options : Options) (names : List ConsumerId) →
+passed_publish : (history : List Traced) (pass : PassNo) (address : List ℕ) (body : Tree) (options : Options) (names : List ConsumerId) → AreBuilt history →
     IsPassed history (entry_of pass address body options names) (calls.Publish address body options)
-passed_publish history pass address body options names = record {
-  contexts = refl;
-  held = refl;
-  finished = λ held. refl;
-  consumers = record { registered = refl; kept = λ consumer. refl };
-  given = refl;
-  codecs = record { added = refl; kept = λ codec. refl };
-  rules = record { added = refl; kept = λ rule. refl };
-  tasks = refl;
-  untaken = λ task. refl;
-  items = refl;
-  kept = λ item. refl;
-  settled = refl;
-  opened = refl;
-  closed = λ one. refl;
-  moves = λ consumer is_live. mailbox_moved history (entry_of pass address body options names) consumer is_live;
-}
+passed_publish history pass address body options names built =
+    let entry = entry_of pass address body options names in
+    let one : IsBuilt entry = record { call = refl; mark = refl } in
+    record {
+      built = one;
+      contexts = record { items = record { contexts = refl; queued = refl }; pools = refl; held = refl; finished = λ held. refl };
+      consumers = record { registered = refl; kept = λ consumer. consumer_kept history entry consumer built one refl };
+      given = refl;
+      codecs = record { added = refl; kept = λ codec. refl };
+      rules = record { added = refl; kept = λ rule. refl };
+      tasks = refl;
+      untaken = λ task. refl;
+      items = refl;
+      kept = λ item. refl;
+      settled = refl;
+      opened = refl;
+      closed = λ request. request_stays history pass (calls.Publish address body options) request built refl;
+      moves = λ consumer is_live. mailbox_moved history entry consumer (ap is_context_owner (live_of_context history consumer built is_live).1) is_live;
+    }
 
 -- ## Whom it reaches
 
@@ -111,35 +124,49 @@ reaches_at history address consumer is_live =
 abbrev parcels_for : List Traced → Message → List Consumer → List Parcel
 parcels_for history message all = map (parcel_for message) (map recipient_of (map (handler_of history) all))
 
-recipients_are : (bus : BusStore) (history : List Traced) (address : List ℕ) → BusStands bus history →
+recipients_are : (bus : BusStore) (history : List Traced) (address : List ℕ) → AreBuilt history → BusStands bus history →
     map recipient_of (filter (λ (h : Handler). is_accepted (next_arrival h)) (filter (is_handler_at address) bus.consumers))
     ≡ map recipient_of (map (handler_of history) (filter (λ consumer. is_accepted (arrival_at history consumer)) (handlers history address)))
-recipients_are bus history address stands =
+recipients_are bus history address built stands =
     let accepts = λ (h : Handler). is_accepted (next_arrival h) in
+    let accepting_now = λ (consumer : Consumer). is_accepted (arrival_at history consumer) in
     ap (λ all. map recipient_of (filter accepts (filter (is_handler_at address) all))) stands.consumers
     ∙ ap (λ all. map recipient_of (filter accepts all)) (filter-map (is_handler_at address) (handler_of history) (consumers history))
-    ∙ ap (map recipient_of) (filter-map accepts (handler_of history) (handlers history address))
+    ∙ ap (map recipient_of)
+    (filter_mapped accepts accepting_now (handler_of history) (handlers history address)
+    (weaken (IsLive history) (λ consumer. accepts (handler_of history consumer) ≡ accepting_now consumer) (handlers history address)
+    (λ consumer is_live. ap is_accepted (sym (arrives_here history consumer built is_live))) (handlers_live history address)))
 
-items_for : (history : List Traced) (message : Message) (place : ℕ) (all : List Consumer) →
-    parcel_items (next_entry history) place (parcels_for history message (filter (λ consumer. is_accepted (arrival_at history consumer)) all))
-    ≡ map item_of (deliveries history message place (filter (λ consumer. is_ready (arrival_at history consumer)) all))
-items_for history message place [] = refl
-items_for history message place (consumer ∷ others) =
+items_for : (history : List Traced) (message : Message) (place : ℕ) (all : List Consumer) → AreBuilt history → Each (IsLive history) all →
+    parcel_items (contexts_of.contexts history) (next_entry history) place (parcels_for history message (filter (λ consumer. is_accepted (arrival_at history consumer)) all))
+    ≡ map (item_of history) (deliveries history message place (homes (filter (λ consumer. is_ready (arrival_at history consumer)) all)))
+items_for history message place [] built lives = refl
+items_for history message place (consumer ∷ others) built lives =
     let accepted = filter (λ c. is_accepted (arrival_at history c)) others in
     let ready = filter (λ c. is_ready (arrival_at history c)) others in
-    let rest = parcels_for history message accepted in
-    let item : Item = record { entry = next_entry history; place = place; context = consumer.context; kind = kinds.Deliver consumer.id message.id } in
-    let first : Arrive → List Item = λ a. cond (is_ready a) (item ∷ []) [] ++ parcel_items (next_entry history) (cond (is_ready a) (place + 1) place) rest in
+    let made = contexts_of.contexts history in
+    let owned = live_of_context history consumer built lives.0 in
+    let kind = kinds.Deliver consumer.id message.id in
+    let behind : ℕ → List Item = λ next. parcel_items made (next_entry history) next (parcels_for history message accepted) in
+    let its : Option ContextId → List Item = λ home. home_item made (next_entry history) place home kind in
+    let first : Arrive → List Item = λ a. cond (is_ready a) (its (context_owning consumer.owner)) [] ++ behind (cond (is_ready a) (place + 1) place) in
+    let here : next_arrival (handler_of history consumer) ≡ arrival_at history consumer = sym (arrives_here history consumer built lives.0) in
     elim (arrival_at history consumer) as (λ a. arrival_at history consumer ≡ a →
-    parcel_items (next_entry history) place (parcels_for history message (cond (is_accepted a) (consumer ∷ accepted) accepted)) ≡ map item_of (deliveries history message place (cond (is_ready a) (consumer ∷ ready) ready))) [
-      | arrives.Ready ↦ λ is_a. ap first is_a ∙ ap (λ items. item ∷ items) (items_for history message (place + 1) others)
-      | arrives.Held ↦ λ is_a. ap first is_a ∙ items_for history message place others
-      | arrives.Lost ↦ λ is_a. items_for history message place others
+    parcel_items made (next_entry history) place (parcels_for history message (cond (is_accepted a) (consumer ∷ accepted) accepted))
+    ≡ map (item_of history) (deliveries history message place (homes (cond (is_ready a) (consumer ∷ ready) ready)))) [
+      | arrives.Ready ↦ λ is_a. ap first (here ∙ is_a)
+          ∙ ap (λ owner. its (context_owning owner) ++ behind (place + 1)) owned.1
+          ∙ ap (λ items. handler_item made (next_entry history) place owned.0 kind ∷ items) (items_for history message (place + 1) others built lives.1)
+          ∙ sym (home_first (λ all. map (item_of history) (deliveries history message place all)) history consumer ready built lives.0)
+      | arrives.Held ↦ λ is_a. ap first (here ∙ is_a) ∙ items_for history message place others built lives.1
+      | arrives.Lost ↦ λ is_a. items_for history message place others built lives.1
     ] refl
 
-tasks_for : (history : List Traced) (message : Message) (all : List Consumer) → map parcel_task (parcels_for history message all) ≡ delivery_tasks (Some message) all
-tasks_for history message [] = refl
-tasks_for history message (consumer ∷ others) = ap (λ tasks. parcel_task (parcel_for message (recipient_of (handler_of history consumer))) ∷ tasks) (tasks_for history message others)
+tasks_for : (history : List Traced) (message : Message) (all : List Consumer) → AreBuilt history → Each (IsLive history) all → map parcel_task (parcels_for history message all) ≡ delivery_tasks (Some message) (homes all)
+tasks_for history message [] built lives = refl
+tasks_for history message (consumer ∷ others) built lives =
+    ap (λ tasks. parcel_task (parcel_for message (recipient_of (handler_of history consumer))) ∷ tasks) (tasks_for history message others built lives.1)
+    ∙ sym (home_first (delivery_tasks (Some message)) history consumer others built lives.0)
 
 names_of : (history : List Traced) (all : List Consumer) → map (λ (r : Recipient). r.consumer) (map recipient_of (map (handler_of history) all)) ≡ ids_of all
 names_of history [] = refl
@@ -201,34 +228,34 @@ IsPublished bus at address body options passage =
     passage ≡ passage_of (passed_in bus sides.Out message) (option_and_then (passed_in bus sides.In) (passed_in bus sides.Out message)))
 
 pub publishes_nothing : (contexts : ContextStore) (timers : List Timer) (bus : BusStore) (history : List Traced) (at : EntryNo) (pass : PassNo) (address : List ℕ) (body : Tree) (options : Options) (passage : Passage) →
-    StoresStand contexts timers bus history → IsNext at history → send_refusal history address body options ≡ None → IsPublished bus at address body options passage → ((message : Message) → passage ≡ passages.Arrives message → ⊥) →
+    StoresStand contexts timers bus history → IsNext at history → send_refusal history pass address body options ≡ None → IsPublished bus at address body options passage → ((message : Message) → passage ≡ passages.Arrives message → ⊥) →
     Follows contexts timers bus history pass (calls.Publish address body options) (replies.Published [])
 publishes_nothing contexts timers bus history at pass address body options passage stands is_next accepted found never =
     let call = calls.Publish address body options in
     let entry = entry_of pass address body options [] in
-    let passed_entry = passed_publish history pass address body options [] in
-    let is_passage : passage ≡ passage_of (sent history call) (received history call) = found ∙ passage_is bus history at call address body options false true stands.bus is_next refl in
-    let none : received history call ≡ None = stopped history (sent history call) (λ message is_one. never message (is_passage ∙ is_one)) in
-    let nobody : reached history call ≡ [] = ap (λ o. cond (is_some o) (handlers history address) []) none in
-    let nobody_accepts : accepting history call ≡ [] = ap (filter (λ consumer. is_accepted (arrival_at history consumer))) nobody in
-    let never_reaches : (consumer : Consumer) → reaches history call consumer.id ≡ false = λ consumer. ap (λ cs. is_some (find (is_named consumer.id) cs)) nobody in
+    let passed_entry = passed_publish history pass address body options [] stands.built in
+    let is_passage : passage ≡ passage_of (sent history call deeds.Nothing) (received history call deeds.Nothing) = found ∙ passage_is bus history at call address body options false true stands.bus is_next refl in
+    let none : received history call deeds.Nothing ≡ None = stopped history (sent history call deeds.Nothing) (λ message is_one. never message (is_passage ∙ is_one)) in
+    let nobody : reached history call deeds.Nothing ≡ [] = ap (λ o. cond (is_some o) (handlers history address) []) none in
+    let nobody_accepts : accepting history call deeds.Nothing ≡ [] = ap (filter (λ consumer. is_accepted (arrival_at history consumer))) nobody in
+    let never_reaches : (consumer : Consumer) → reaches history call deeds.Nothing consumer.id ≡ false = λ consumer. ap (λ cs. is_some (find (is_named consumer.id) cs)) nobody in
     let out : GoesOut contexts contexts timers bus bus history entry call = record {
-      items = same_items contexts contexts (item_made history call) refl (append-nil _ ∙ ap (λ o. delivered history o (readied history call)) none);
+      items = same_items contexts contexts history (item_by history entry call) refl (append-nil _ ∙ ap (λ o. delivered history o (homes (readied history call deeds.Nothing))) none);
       timers = stands.timers ∙ ap (λ requests. map timer_of (by_due requests)) (sym (append-nil (unsettled history)));
       consumers = stands.bus.consumers
           ∙ sym (map_same (handler_of history) (consumers history))
           ∙ handlers_after history entry call (λ h. h) passed_entry (λ consumer is_live. ap (λ b. cond b (with_arrival (handler_of history consumer)) (handler_of history consumer)) (sym (never_reaches consumer)));
       in_turn = λ a. refl;
       choices = λ a. stands.bus.choices a ∙ sym (choices_left history entry a passed_entry.consumers refl);
-      tasks = sym (append-nil bus.tasks) ∙ ap (λ made. bus.tasks ++ made) (sym (append-nil _ ∙ ap (λ o. delivery_tasks o (accepting history call)) none));
+      tasks = sym (append-nil bus.tasks) ∙ ap (λ made. bus.tasks ++ made) (sym (append-nil _ ∙ ap (λ o. delivery_tasks o (homes (accepting history call deeds.Nothing))) none));
       opened = sym (append-nil bus.requests.waiting);
-      ended = λ id. stands.bus.ended id ∙ all_ended history id;
+      ended = λ id. stands.bus.ended id ∙ all_ended history id stands.built;
       given = λ id. refl;
       codecs = refl;
       rules = refl;
     } in
     record {
-      answered = ap (λ cs. replies.Published (ids_of cs)) (sym nobody_accepts) ∙ sym (ap (λ refusal. unless_refused refusal (replies.Published (ids_of (accepting history call)))) accepted);
+      answered = ap (λ cs. replies.Published (ids_of cs)) (sym nobody_accepts) ∙ sym (ap (λ refusal. unless_refused refusal (replies.Published (ids_of (accepting history call deeds.Nothing)))) accepted);
       stores = goes_out contexts contexts timers timers bus bus history entry call passed_entry stands out;
     }
 
@@ -236,36 +263,39 @@ publishes_nothing contexts timers bus history at pass address body options passa
 
 pub publishes : (contexts new_contexts : ContextStore) (timers : List Timer) (old bus arrived_bus new_bus : BusStore) (history : List Traced) (at : EntryNo) (pass : PassNo) (address : List ℕ) (body : Tree) (options : Options) (passage : Passage)
     (message : Message) (recipients : List Recipient) (parcels : List Parcel) (names : List ConsumerId) →
-    BusStands old history → StoresStand contexts timers bus history → IsNext at history → send_refusal history address body options ≡ None → IsPublished old at address body options passage → passage ≡ passages.Arrives message →
+    BusStands old history → StoresStand contexts timers bus history → IsNext at history → send_refusal history pass address body options ≡ None → IsPublished old at address body options passage → passage ≡ passages.Arrives message →
     recipients ≡ map recipient_of (filter (λ (h : Handler). is_accepted (next_arrival h)) (filter (is_handler_at address) old.consumers)) →
     parcels ≡ map (parcel_for message) recipients → names ≡ map (λ (r : Recipient). r.consumer) recipients →
     arrived_bus ≡ record bus { consumers = map (changed_at address arrived) bus.consumers } →
-    new_contexts ≡ record contexts { waiting = contexts.waiting ++ parcel_items at 0 parcels; room = new_contexts.room } →
+    new_contexts ≡ record contexts { waiting = contexts.waiting ++ parcel_items contexts.made at 0 parcels; room = new_contexts.room } →
     new_bus ≡ record arrived_bus { tasks = arrived_bus.tasks ++ map parcel_task parcels; room = new_bus.room } →
     Follows new_contexts timers new_bus history pass (calls.Publish address body options) (replies.Published names)
 publishes contexts new_contexts timers old bus arrived_bus new_bus history at pass address body options passage message recipients parcels names was stands is_next accepted found arrives_now is_recipients is_parcels is_names is_arrived is_contexts is_bus =
     let call = calls.Publish address body options in
     let entry = entry_of pass address body options names in
-    let passed_entry = passed_publish history pass address body options names in
-    let is_passage : passage ≡ passage_of (sent history call) (received history call) = found ∙ passage_is old history at call address body options false true was is_next refl in
-    let is_message : received history call ≡ Some message = arrived_so (sent history call) (received history call) message (sym is_passage ∙ arrives_now) in
-    let all : reached history call ≡ handlers history address = ap (λ o. cond (is_some o) (handlers history address) []) is_message in
-    let accepters : accepting history call ≡ filter (λ consumer. is_accepted (arrival_at history consumer)) (handlers history address) = ap (filter (λ consumer. is_accepted (arrival_at history consumer))) all in
-    let are : recipients ≡ map recipient_of (map (handler_of history) (accepting history call)) =
-    is_recipients ∙ recipients_are old history address was ∙ ap (λ cs. map recipient_of (map (handler_of history) cs)) (sym accepters) in
-    let each : parcels ≡ parcels_for history message (accepting history call) = is_parcels ∙ ap (map (parcel_for message)) are in
+    let passed_entry = passed_publish history pass address body options names stands.built in
+    let is_passage : passage ≡ passage_of (sent history call deeds.Nothing) (received history call deeds.Nothing) = found ∙ passage_is old history at call address body options false true was is_next refl in
+    let is_message : received history call deeds.Nothing ≡ Some message = arrived_so (sent history call deeds.Nothing) (received history call deeds.Nothing) message (sym is_passage ∙ arrives_now) in
+    let all : reached history call deeds.Nothing ≡ handlers history address = ap (λ o. cond (is_some o) (handlers history address) []) is_message in
+    let accepters : accepting history call deeds.Nothing ≡ filter (λ consumer. is_accepted (arrival_at history consumer)) (handlers history address) = ap (filter (λ consumer. is_accepted (arrival_at history consumer))) all in
+    let are : recipients ≡ map recipient_of (map (handler_of history) (accepting history call deeds.Nothing)) =
+    is_recipients ∙ recipients_are old history address stands.built was ∙ ap (λ cs. map recipient_of (map (handler_of history) cs)) (sym accepters) in
+    let each : parcels ≡ parcels_for history message (accepting history call deeds.Nothing) = is_parcels ∙ ap (map (parcel_for message)) are in
     let is_at_next : at ≡ next_entry history = ap (λ n. let e : EntryNo = record { 0 = n } in e) is_next in
-    let items : parcel_items at 0 parcels ≡ map item_of (item_made history call) =
-    ap (λ e. parcel_items e 0 parcels) is_at_next
-    ∙ ap (parcel_items (next_entry history) 0) (each ∙ ap (parcels_for history message) accepters)
-    ∙ items_for history message 0 (handlers history address)
-    ∙ ap (λ cs. map item_of (deliveries history message 0 (filter (λ consumer. is_ready (arrival_at history consumer)) cs))) (sym all)
-    ∙ ap (λ o. map item_of (delivered history o (readied history call))) (sym is_message)
-    ∙ ap (map item_of) (sym (append-nil _)) in
-    let made : map parcel_task parcels ≡ delivery_tasks (received history call) (accepting history call) =
-    ap (map parcel_task) each ∙ tasks_for history message (accepting history call) ∙ ap (λ o. delivery_tasks o (accepting history call)) (sym is_message) in
+    let items : parcel_items contexts.made at 0 parcels ≡ map (item_of history) (item_by history entry call) =
+    ap (λ made. parcel_items made at 0 parcels) stands.contexts.made
+    ∙ ap (λ e. parcel_items (contexts_of.contexts history) e 0 parcels) is_at_next
+    ∙ ap (parcel_items (contexts_of.contexts history) (next_entry history) 0) (each ∙ ap (parcels_for history message) accepters)
+    ∙ items_for history message 0 (handlers history address) stands.built (handlers_live history address)
+    ∙ ap (λ cs. map (item_of history) (deliveries history message 0 (homes (filter (λ consumer. is_ready (arrival_at history consumer)) cs)))) (sym all)
+    ∙ ap (λ o. map (item_of history) (delivered history o (homes (readied history call deeds.Nothing)))) (sym is_message)
+    ∙ ap (map (item_of history)) (sym (append-nil _)) in
+    let made : map parcel_task parcels ≡ delivery_tasks (received history call deeds.Nothing) (homes (accepting history call deeds.Nothing)) =
+    ap (map parcel_task) each
+    ∙ tasks_for history message (accepting history call deeds.Nothing) stands.built (accepting_live history call deeds.Nothing)
+    ∙ ap (λ o. delivery_tasks o (homes (accepting history call deeds.Nothing))) (sym is_message) in
     let same_rings : new_bus.rings ≡ bus.rings = ap (λ (s : BusStore). s.rings) is_bus ∙ ap (λ (s : BusStore). s.rings) is_arrived in
-    let reaches_them : (consumer : Consumer) → IsLive history consumer → is_at address consumer ≡ reaches history call consumer.id = λ consumer is_live.
+    let reaches_them : (consumer : Consumer) → IsLive history consumer → is_at address consumer ≡ reaches history call deeds.Nothing consumer.id = λ consumer is_live.
     reaches_at history address consumer is_live ∙ sym (ap (λ cs. is_some (find (is_named consumer.id) cs)) all) in
     let out : GoesOut contexts new_contexts timers bus new_bus history entry call = record {
       items = is_contexts ∙ ap (λ xs. record contexts { waiting = contexts.waiting ++ xs; room = new_contexts.room }) items;
@@ -277,14 +307,14 @@ publishes contexts new_contexts timers old bus arrived_bus new_bus history at pa
       choices = λ a. ap (choices_at a) same_rings ∙ stands.bus.choices a ∙ sym (choices_left history entry a passed_entry.consumers refl);
       tasks = ap (λ (s : BusStore). s.tasks) is_bus ∙ ap (λ (s : BusStore). s.tasks ++ map parcel_task parcels) is_arrived ∙ ap (λ xs. bus.tasks ++ xs) (made ∙ sym (append-nil _));
       opened = ap (λ (s : BusStore). s.requests.waiting) is_bus ∙ ap (λ (s : BusStore). s.requests.waiting) is_arrived ∙ sym (append-nil bus.requests.waiting);
-      ended = λ id. ap (λ (s : BusStore). ended_at id s.requests.ended) is_bus ∙ ap (λ (s : BusStore). ended_at id s.requests.ended) is_arrived ∙ stands.bus.ended id ∙ all_ended history id;
+      ended = λ id. ap (λ (s : BusStore). ended_at id s.requests.ended) is_bus ∙ ap (λ (s : BusStore). ended_at id s.requests.ended) is_arrived ∙ stands.bus.ended id ∙ all_ended history id stands.built;
       given = λ id. ap (λ (s : BusStore). given_at id s.given) is_bus ∙ ap (λ (s : BusStore). given_at id s.given) is_arrived;
       codecs = ap (λ (s : BusStore). s.codecs) is_bus ∙ ap (λ (s : BusStore). s.codecs) is_arrived;
       rules = ap (λ (s : BusStore). s.rules) is_bus ∙ ap (λ (s : BusStore). s.rules) is_arrived;
     } in
     record {
-      answered = ap replies.Published (is_names ∙ ap (map (λ (r : Recipient). r.consumer)) are ∙ names_of history (accepting history call))
-          ∙ sym (ap (λ refusal. unless_refused refusal (replies.Published (ids_of (accepting history call)))) accepted);
+      answered = ap replies.Published (is_names ∙ ap (map (λ (r : Recipient). r.consumer)) are ∙ names_of history (accepting history call deeds.Nothing))
+          ∙ sym (ap (λ refusal. unless_refused refusal (replies.Published (ids_of (accepting history call deeds.Nothing)))) accepted);
       stores = goes_out contexts new_contexts timers timers bus new_bus history entry call passed_entry stands out;
     }
 

@@ -1,6 +1,7 @@
 -- A request that ends with an outcome: Reply, Fail and ReplyRequest.
-use Rattle.std.proofs.Common.{◌≡◌, ℕ, ℤ, ◌+◌, List, [], ◌∷◌, ◌++◌, length, refl, ap, sym, ◌∙◌, subst}
+use Rattle.std.proofs.Common.{◌≡◌, ℕ, ℤ, List, [], ◌∷◌, ◌++◌, length, refl, ap, sym, ◌∙◌, subst}
 use Rattle.std.specs.Prelude.{Bool, true, false, not, ◌&&◌, ◌==◌, cond, filter, find, map, is_some, Option, None, Some}
+use Rattle.std.specs.List.{cons_option}
 use Rattle.std.specs.Option.{option_map, option_or, option_to_list}
 use Rattle.std.proofs.lemmas.Bool.{eqb-true}
 use Rattle.std.proofs.lemmas.List.{append-nil, map-append}
@@ -13,12 +14,13 @@ use Rattle.vx_data.specs.declared.ids.MessageId.{MessageId}
 use Rattle.vx_data.specs.Tree.{Tree}
 use Rattle.vx_message.specs.declared.Options.{Options}
 use Rattle.vx_message.specs.Codecs.{is_codec}
-use Rattle.vx_message.specs.declared.Held.{Held}
+use Rattle.vx_message.specs.declared.Context.{Context}
 use Rattle.vx_message.specs.declared.Item.{Item}
 use Rattle.vx_message.specs.declared.Outcome.{Outcome}
 use Rattle.vx_message.specs.declared.FailureKind.TheVariants as failures
 use Rattle.vx_timer.specs.declared.timers.Timer.{Timer}
 use Rattle.vx_timer.specs.Order.{is_named}
+use Rattle.vx_consumer.specs.Mailboxes as moves
 use Rattle.vx_ring.specs.Rings.{consumers_at, choices_at}
 use Rattle.vx_request.specs.Stores.{is_request, ended_at, given_at}
 use Rattle.vx_call.specs.declared.call.Call.{Call}
@@ -28,34 +30,41 @@ use Rattle.vx_call.specs.declared.reply.Reply.TheVariants as replies
 use Rattle.vx_call.specs.declared.reply.Task.TheVariants as tasks
 use Rattle.vx_call.specs.declared.reply.Task.{Task}
 use Rattle.vx_call.specs.declared.history.Traced.{Traced}
-use Rattle.vx_call.specs.History.{made_by, ended_by, lasting, plain_entry}
+use Rattle.vx_call.specs.History.{made_by, ended_by, lasting, plain_entry, no_mark}
+use Rattle.vx_call.specs.Built.{IsBuilt, AreBuilt}
 use Rattle.vx_data.specs.Ids.{same_message}
 use Rattle.vx_call.specs.Names.{next_entry}
-use Rattle.vx_call.specs.Contexts.{context_kind}
+use Rattle.vx_call.specs.Contexts.{contexts}
 use Rattle.vx_call.specs.Codecs.{coded, coded_by}
 use Rattle.vx_call.specs.Choices.{choice_kind}
 use Rattle.vx_call.specs.Given.{given_kind}
+use Rattle.vx_call.specs.Mailboxes.{move_if}
+use Rattle.vx_call.specs.Owners.{context_owning}
+use Rattle.vx_call.specs.Askers.{Asker, context_asking}
+use Rattle.vx_call.specs.Askers as askers
 use Rattle.vx_call.specs.Requests.{Open, open_kind, unsettled, by_due}
-use Rattle.vx_call.specs.Settled.{Settled, settled_kind, settled, settlements, failed, replied}
+use Rattle.vx_call.specs.Settled.{Settled, settlement, settled_kind, settled, settled_at, settlements, failed, replied}
+use Rattle.vx_call.specs.Homes.{Heard, heard}
 use Rattle.vx_call.specs.Items.{Waiting, item_kind, waiting, task_kind, untaken, outcome_items, outcome_tasks}
-use Rattle.vx_call.specs.Held.{held_kind}
 use Rattle.vx_call.specs.Machine.{row}
-use Rattle.vx_call.proofs.Lasting.{lasting-append, lasting_same, lasting_more}
+use Rattle.vx_call.proofs.Lasting.{lasting-append, lasting_more}
 use Rattle.vx_call.proofs.Found.{find_passes}
 use Rattle.vx_call.proofs.Each.{Each}
 use Rattle.vx_call.proofs.Apart.{Apart}
+use Rattle.vx_call.proofs.Built.{IsAskedByContext, built_more, unsettled_of_contexts, settled_by_outcome}
 use Rattle.vx_call.proofs.Mailboxes.{mailbox_unmoved}
 use Rattle.vx_call.proofs.Opened.{same_open, unsettled_apart}
-use Rattle.vx_call.proofs.Settlings.{settlement, settled-append}
+use Rattle.vx_call.proofs.Settlings.{settled-append}
 use Rattle.vx_call.proofs.ByDue.{by_due-filter}
 use Rattle.vx_context.specs.Stores.{ContextStore, item_of}
 use Rattle.vx_context.specs.Stands.{ContextsStand, IsNext}
-use Rattle.vx_bus_store.specs.Stores.{BusStore, asker_in, coded_in, row_of, timer_of}
+use Rattle.vx_bus_store.specs.Stores.{BusStore, asker_in, coded_in, owner_asking, row_of, timer_of}
 use Rattle.vx_bus_store.specs.Stands.{BusStands, TimersStand, StoresStand, Follows}
 use Rattle.vx_bus_delivery.specs.Ending as ending
 use Rattle.vx_call.proofs.Filters.{filter-map}
 use Rattle.vx_bus_store.proofs.Images.{find-map}
-use Rattle.vx_bus_store.proofs.Frames.{LeavesConsumers, LeavesNumbers, LeavesCodecs, LeavesRules, never_ended, handlers_left, numbers_left, rings_left, choices_left, given_left, codecs_left, rules_left}
+use Rattle.vx_bus_store.proofs.Frames.{LeavesConsumers, LeavesNumbers, LeavesCodecs, LeavesRules, consumer_kept, handlers_left, numbers_left, rings_left, choices_left, given_left, codecs_left, rules_left}
+use Rattle.vx_bus_send.proofs.Stays.{KeepsContexts, contexts_more, settled_alone}
 
 -- ## The open request of an id
 
@@ -107,32 +116,37 @@ found_each {X} P p (y ∷ xs) x each h =
 row_there : (bus : BusStore) (history : List Traced) (id : MessageId) → BusStands bus history → find (is_request id) bus.requests.waiting ≡ option_map row_of (one_open history id)
 row_there bus history id stands = ap (find (is_request id)) stands.opened ∙ find-map row_of (is_one id) (is_request id) (λ request. refl) (unsettled history)
 
-abbrev asker_of : Open → ContextId
-asker_of request = request.asker
+-- the context that asked, if one did
+abbrev asker_of : Option Open → Option ContextId
+asker_of None = None
+asker_of (Some request) = context_asking request.asker
 
-asker_in_row : (found : Option Open) → asker_in (option_map row_of found) ≡ option_map asker_of found
+owner_of : (asker : Asker) → context_owning (owner_asking asker) ≡ context_asking asker
+owner_of (askers.context context) = refl
+owner_of (askers.connection conn at) = refl
+
+asker_in_row : (found : Option Open) → asker_in (option_map row_of found) ≡ asker_of found
 asker_in_row None = refl
-asker_in_row (Some request) = refl
+asker_in_row (Some request) = owner_of request.asker
 
-asker_known : (bus : BusStore) (history : List Traced) (id : MessageId) → BusStands bus history → ending.asker_there id bus ≡ option_map asker_of (one_open history id)
+asker_known : (bus : BusStore) (history : List Traced) (id : MessageId) → BusStands bus history → ending.asker_there id bus ≡ asker_of (one_open history id)
 asker_known bus history id stands = ap asker_in (row_there bus history id stands) ∙ asker_in_row (one_open history id)
 
 -- ## What the entry is
 
 -- an entry that settles the request with this outcome where it is open, opens these requests, and does no more
 pub record Ends (history : List Traced) (new : Traced) (request : MessageId) (outcome : Outcome) (opens : List Open) : Type 0 where
-  pub contexts : made_by context_kind history new ≡ []
-  pub held : made_by held_kind history new ≡ []
-  pub finished : (held : Held) → ended_by held_kind history new held ≡ false
+  pub built : IsBuilt new
+  pub contexts : KeepsContexts history new
   pub consumers : LeavesConsumers history new
   pub numbers : LeavesNumbers history new
   pub choices : made_by choice_kind history new ≡ []
   pub given : made_by given_kind history new ≡ []
   pub codecs : LeavesCodecs history new
   pub rules : LeavesRules history new
-  pub tasks : made_by task_kind history new ≡ outcome_tasks (settlements history outcome (filter (is_one request) (unsettled history)))
+  pub tasks : made_by task_kind history new ≡ outcome_tasks (heard (settlements history outcome (filter (is_one request) (unsettled history))))
   pub untaken : (task : Task) → ended_by task_kind history new task ≡ false
-  pub items : made_by item_kind history new ≡ outcome_items 0 (settlements history outcome (filter (is_one request) (unsettled history)))
+  pub items : made_by item_kind history new ≡ outcome_items 0 (heard (settlements history outcome (filter (is_one request) (unsettled history))))
   pub kept : (item : Waiting) → ended_by item_kind history new item ≡ false
   pub settled : made_by settled_kind history new ≡ settlements history outcome (filter (is_one request) (unsettled history))
   pub opened : made_by open_kind history new ≡ opens
@@ -144,33 +158,34 @@ found_name history id request h = eqb-true id.0.0 request.id.0.0 (find_passes (i
 -- ## The contexts
 
 items_of : (history : List Traced) (at : EntryNo) (id : MessageId) (outcome : Outcome) (found : Option Open) → IsNext at history → ((request : Open) → found ≡ Some request → id.0.0 ≡ request.id.0.0) →
-    ending.outcome_items at id (option_map asker_of found) ≡ map item_of (outcome_items 0 (settlements history outcome (option_to_list found)))
+    ending.outcome_items (contexts history) at id (asker_of found) ≡ map (item_of history) (outcome_items 0 (heard (settlements history outcome (option_to_list found))))
 items_of history at id outcome None is_next same = refl
 items_of history at id outcome (Some request) is_next same =
-    let item : ℕ → ℕ → Item = λ n m. ending.outcome_item (record { 0 = n }) (record { 0 = record { 0 = m } }) request.asker in
-    ap (λ n. item n id.0.0 ∷ []) is_next ∙ ap (λ m. item (length history) m ∷ []) (same request refl)
+    let item : ContextId → ℕ → ℕ → Item = λ context n m. ending.outcome_item (contexts history) (record { 0 = n }) (record { 0 = record { 0 = m } }) context in
+    let it : ContextId → Heard = λ context. record { request = request.id; at = next_entry history; context = context; outcome = outcome } in
+    elim (context_asking request.asker) as (λ o. ending.outcome_items (contexts history) at id o ≡ map (item_of history) (outcome_items 0 (cons_option (option_map it o) []))) [
+      | None ↦ refl
+      | Some context ↦ ap (λ n. item context n id.0.0 ∷ []) is_next ∙ ap (λ m. item context (length history) m ∷ []) (same request refl)
+    ]
 
 more_waiting : (history : List Traced) (new : Traced) (request : MessageId) (outcome : Outcome) (opens : List Open) → Ends history new request outcome opens →
-    waiting (history ++ new ∷ []) ≡ waiting history ++ outcome_items 0 (settlements history outcome (option_to_list (one_open history request)))
+    waiting (history ++ new ∷ []) ≡ waiting history ++ outcome_items 0 (heard (settlements history outcome (option_to_list (one_open history request))))
 more_waiting history new request outcome opens ends =
     lasting_more item_kind history new ends.kept
     ∙ ap (λ items. waiting history ++ items) ends.items
-    ∙ ap (λ requests. waiting history ++ outcome_items 0 (settlements history outcome requests)) (filter_one request (unsettled history) (unsettled_apart history))
+    ∙ ap (λ requests. waiting history ++ outcome_items 0 (heard (settlements history outcome requests))) (filter_one request (unsettled history) (unsettled_apart history))
 
 pub contexts_settled : (old new_store : ContextStore) (bus : BusStore) (history : List Traced) (new : Traced) (at : EntryNo) (request : MessageId) (outcome : Outcome) (opens : List Open) →
     Ends history new request outcome opens → IsNext at history → ContextsStand old history → BusStands bus history →
-    new_store ≡ record old { waiting = old.waiting ++ ending.outcome_items at request (ending.asker_there request bus); room = new_store.room } → ContextsStand new_store (history ++ new ∷ [])
+    new_store ≡ record old { waiting = old.waiting ++ ending.outcome_items old.made at request (ending.asker_there request bus); room = new_store.room } → ContextsStand new_store (history ++ new ∷ [])
 contexts_settled old new_store bus history new at request outcome opens ends is_next stands bus_stands is_new =
-    let made = settlements history outcome (option_to_list (one_open history request)) in
-    record {
-      made = ap (λ (s : ContextStore). s.made) is_new ∙ stands.made ∙ sym (lasting_same context_kind history new ends.contexts (never_ended history new));
-      held = ap (λ (s : ContextStore). s.held) is_new ∙ stands.held ∙ sym (lasting_same held_kind history new ends.held ends.finished);
-      waiting = ap (λ (s : ContextStore). s.waiting) is_new
-          ∙ ap (λ xs. xs ++ ending.outcome_items at request (ending.asker_there request bus)) stands.waiting
-          ∙ ap (λ asker. map item_of (waiting history) ++ ending.outcome_items at request asker) (asker_known bus history request bus_stands)
-          ∙ ap (λ xs. map item_of (waiting history) ++ xs) (items_of history at request outcome (one_open history request) is_next (found_name history request))
-          ∙ sym (ap (map item_of) (more_waiting history new request outcome opens ends) ∙ map-append item_of (waiting history) (outcome_items 0 made));
-    }
+    let made = outcome_items 0 (heard (settlements history outcome (option_to_list (one_open history request)))) in
+    let items : ending.outcome_items old.made at request (ending.asker_there request bus) ≡ map (item_of history) made =
+    ap (λ (all : List Context). ending.outcome_items all at request (ending.asker_there request bus)) stands.made
+    ∙ ap (ending.outcome_items (contexts history) at request) (asker_known bus history request bus_stands)
+    ∙ items_of history at request outcome (one_open history request) is_next (found_name history request) in
+    contexts_more old new_store history new made ends.contexts (more_waiting history new request outcome opens ends) stands
+    (is_new ∙ ap (λ xs. record old { waiting = old.waiting ++ xs; room = new_store.room }) items)
 
 -- ## The timers
 
@@ -183,38 +198,45 @@ left_open history new request outcome opens ends =
     ∙ ap (λ kept. kept ++ opens) (filter_agree (λ one. not (ended_by open_kind history new one)) (λ one. not (is_one request one)) (λ one. ap not (ends.closed one)) (unsettled history))
 
 timers_of : (timers : List Timer) (request : MessageId) (before opens : List Open) (found : Option Open) → find (is_one request) before ≡ found → timers ≡ map timer_of (by_due (before ++ opens)) →
-    ((one : Open) → found ≡ Some one → filter (λ one. not (is_one request one)) opens ≡ opens) →
-    ending.without_timer request (option_map asker_of found) timers ≡ map timer_of (by_due (filter (λ one. not (is_one request one)) before ++ opens))
-timers_of timers request before opens None none is_timers others = is_timers ∙ ap (λ kept. map timer_of (by_due (kept ++ opens))) (sym (all_others (is_one request) before none))
-timers_of timers request before opens (Some found) is_found is_timers others =
+    ((one : Open) → found ≡ Some one → IsAskedByContext one) → ((one : Open) → found ≡ Some one → filter (λ one. not (is_one request one)) opens ≡ opens) →
+    ending.without_timer request (asker_of found) timers ≡ map timer_of (by_due (filter (λ one. not (is_one request one)) before ++ opens))
+timers_of timers request before opens None none is_timers asked others = is_timers ∙ ap (λ kept. map timer_of (by_due (kept ++ opens))) (sym (all_others (is_one request) before none))
+timers_of timers request before opens (Some found) is_found is_timers asked others =
     let stays : Open → Bool = λ one. not (is_one request one) in
-    ap (filter (λ timer. not (is_named request.0 timer))) is_timers
+    ap (λ asker. ending.without_timer request (context_asking asker) timers) (asked found refl).1
+    ∙ ap (filter (λ timer. not (is_named request.0 timer))) is_timers
     ∙ filter-map (λ timer. not (is_named request.0 timer)) timer_of (by_due (before ++ opens))
     ∙ ap (map timer_of) (sym (by_due-filter stays (before ++ opens)) ∙ ap by_due (filter-append stays before opens ∙ ap (λ rest. filter stays before ++ rest) (others found refl)))
 
-pub timers_settled : (old new_timers : List Timer) (bus : BusStore) (history : List Traced) (new : Traced) (request : MessageId) (outcome : Outcome) (opens : List Open) →
+pub timers_settled : (old new_timers : List Timer) (bus : BusStore) (history : List Traced) (new : Traced) (request : MessageId) (outcome : Outcome) (opens : List Open) → AreBuilt history →
     Ends history new request outcome opens → BusStands bus history → old ≡ map timer_of (by_due (unsettled history ++ opens)) →
     ((found : Open) → one_open history request ≡ Some found → filter (λ one. not (is_one request one)) opens ≡ opens) →
     new_timers ≡ ending.without_timer request (ending.asker_there request bus) old → TimersStand new_timers (history ++ new ∷ [])
-timers_settled old new_timers bus history new request outcome opens ends stands is_old others is_new =
+timers_settled old new_timers bus history new request outcome opens built ends stands is_old others is_new =
     is_new
     ∙ ap (λ asker. ending.without_timer request asker old) (asker_known bus history request stands)
-    ∙ timers_of old request (unsettled history) opens (one_open history request) refl is_old others
+    ∙ timers_of old request (unsettled history) opens (one_open history request) refl is_old
+    (λ one is_found. found_each IsAskedByContext (is_one request) (unsettled history) one (unsettled_of_contexts history built) is_found) others
     ∙ sym (ap (λ requests. map timer_of (by_due requests)) (left_open history new request outcome opens ends))
 
 -- ## The bus
 
 tasks_of : (history : List Traced) (id : MessageId) (outcome : Outcome) (found : Option Open) → ((request : Open) → found ≡ Some request → id.0.0 ≡ request.id.0.0) →
-    ending.outcome_tasks id outcome (option_map asker_of found) ≡ outcome_tasks (settlements history outcome (option_to_list found))
+    ending.outcome_tasks id outcome (asker_of found) ≡ outcome_tasks (heard (settlements history outcome (option_to_list found)))
 tasks_of history id outcome None same = refl
-tasks_of history id outcome (Some request) same = ap (λ m. tasks.Outcome (record { 0 = record { 0 = m } }) outcome ∷ []) (same request refl)
+tasks_of history id outcome (Some request) same =
+    let it : ContextId → Heard = λ context. record { request = request.id; at = next_entry history; context = context; outcome = outcome } in
+    elim (context_asking request.asker) as (λ o. ending.outcome_tasks id outcome o ≡ outcome_tasks (cons_option (option_map it o) [])) [
+      | None ↦ refl
+      | Some context ↦ ap (λ m. tasks.Outcome (record { 0 = record { 0 = m } }) outcome ∷ []) (same request refl)
+    ]
 
 more_untaken : (history : List Traced) (new : Traced) (request : MessageId) (outcome : Outcome) (opens : List Open) → Ends history new request outcome opens →
-    untaken (history ++ new ∷ []) ≡ untaken history ++ outcome_tasks (settlements history outcome (option_to_list (one_open history request)))
+    untaken (history ++ new ∷ []) ≡ untaken history ++ outcome_tasks (heard (settlements history outcome (option_to_list (one_open history request))))
 more_untaken history new request outcome opens ends =
     lasting_more task_kind history new ends.untaken
     ∙ ap (λ made. untaken history ++ made) ends.tasks
-    ∙ ap (λ requests. untaken history ++ outcome_tasks (settlements history outcome requests)) (filter_one request (unsettled history) (unsettled_apart history))
+    ∙ ap (λ requests. untaken history ++ outcome_tasks (heard (settlements history outcome requests))) (filter_one request (unsettled history) (unsettled_apart history))
 
 abbrev pub at_of : Settled → EntryNo
 at_of settled = settled.at
@@ -232,27 +254,28 @@ ended_of history at id other outcome (Some request) is_next same =
     ∙ ap (λ n. cond ((other.0.0 == request.id.0.0) && true) (Some (let entry : EntryNo = record { 0 = n } in entry)) None) is_next
     ∙ elim (other.0.0 == request.id.0.0) as (λ b. cond (b && true) (Some (next_entry history)) None ≡ option_map at_of (cond b (Some (settlement history outcome request)) None)) [ true ↦ refl | false ↦ refl ]
 
-more_ended : (bus : BusStore) (history : List Traced) (new : Traced) (at : EntryNo) (id other : MessageId) (outcome : Outcome) (opens : List Open) → Ends history new id outcome opens → IsNext at history → BusStands bus history →
-    option_or (ended_at other bus.requests.ended) (cond (same_message other id && is_some (find (is_request id) bus.requests.waiting)) (Some at) None) ≡ option_map at_of (settled (history ++ new ∷ []) other)
-more_ended bus history new at id other outcome opens ends is_next stands =
+more_ended : (bus : BusStore) (history : List Traced) (new : Traced) (at : EntryNo) (id other : MessageId) (outcome : Outcome) (opens : List Open) → AreBuilt history → Ends history new id outcome opens → IsNext at history → BusStands bus history →
+    option_or (ended_at other bus.requests.ended) (cond (same_message other id && is_some (find (is_request id) bus.requests.waiting)) (Some at) None) ≡ settled_at (history ++ new ∷ []) other
+more_ended bus history new at id other outcome opens built ends is_next stands =
     let test : Settled → Bool = λ s. same_message other s.request in
     let made = settlements history outcome (option_to_list (one_open history id)) in
-    ap (λ known. option_or known (cond (same_message other id && is_some (find (is_request id) bus.requests.waiting)) (Some at) None)) (stands.ended other)
+    ap (λ known. option_or known (cond (same_message other id && is_some (find (is_request id) bus.requests.waiting)) (Some at) None)) (stands.ended other ∙ settled_by_outcome history other built)
     ∙ ap (λ row. option_or (option_map at_of (settled history other)) (cond (same_message other id && is_some row) (Some at) None)) (row_there bus history id stands)
     ∙ ap (option_or (option_map at_of (settled history other))) (ended_of history at id other outcome (one_open history id) is_next (found_name history id))
     ∙ sym (option_map-or at_of (settled history other) (find test made))
     ∙ ap (option_map at_of) (sym (find-append test (lasting settled_kind history) made))
     ∙ ap (λ all. option_map at_of (find test all))
     (sym (settled-append history new ∙ ap (λ all. lasting settled_kind history ++ all) (ends.settled ∙ ap (settlements history outcome) (filter_one id (unsettled history) (unsettled_apart history)))))
+    ∙ sym (settled_by_outcome (history ++ new ∷ []) other (built_more history new built ends.built))
 
-pub bus_settled : (old new_store : BusStore) (history : List Traced) (new : Traced) (at : EntryNo) (request : MessageId) (outcome : Outcome) (opens : List Open) →
+pub bus_settled : (old new_store : BusStore) (history : List Traced) (new : Traced) (at : EntryNo) (request : MessageId) (outcome : Outcome) (opens : List Open) → AreBuilt history →
     Ends history new request outcome opens → IsNext at history → BusStands old history →
     new_store ≡ record old { requests = new_store.requests; tasks = old.tasks ++ ending.outcome_tasks request outcome (ending.asker_there request old); room = new_store.room } →
     new_store.requests.waiting ≡ filter (λ row. not (is_request request row)) old.requests.waiting ++ map row_of opens →
     ((id : MessageId) → ended_at id new_store.requests.ended
     ≡ option_or (ended_at id old.requests.ended) (cond (same_message id request && is_some (find (is_request request) old.requests.waiting)) (Some at) None)) →
     BusStands new_store (history ++ new ∷ [])
-bus_settled old new_store history new at request outcome opens ends is_next stands is_new is_left is_ended =
+bus_settled old new_store history new at request outcome opens built ends is_next stands is_new is_left is_ended =
     let stays : Open → Bool = λ one. not (is_one request one) in
     record {
       consumers = ap (λ (s : BusStore). s.consumers) is_new ∙ stands.consumers ∙ sym (handlers_left history new ends.consumers ends.numbers);
@@ -267,7 +290,7 @@ bus_settled old new_store history new at request outcome opens ends is_next stan
           ∙ ap (λ rows. filter (λ row. not (is_request request row)) rows ++ map row_of opens) stands.opened
           ∙ ap (λ rows. rows ++ map row_of opens) (filter-map (λ row. not (is_request request row)) row_of (unsettled history))
           ∙ sym (ap (map row_of) (left_open history new request outcome opens ends) ∙ map-append row_of (filter stays (unsettled history)) opens);
-      ended = λ id. is_ended id ∙ more_ended old history new at request id outcome opens ends is_next stands;
+      ended = λ id. is_ended id ∙ more_ended old history new at request id outcome opens built ends is_next stands;
       given = λ id. ap (λ (s : BusStore). given_at id s.given) is_new ∙ stands.given id ∙ sym (given_left history new id ends.given);
       codecs = ap (λ (s : BusStore). s.codecs) is_new ∙ stands.codecs ∙ sym (codecs_left history new ends.codecs);
       rules = ap (λ (s : BusStore). s.rules) is_new ∙ stands.rules ∙ sym (rules_left history new ends.rules);
@@ -276,17 +299,18 @@ bus_settled old new_store history new at request outcome opens ends is_next stan
 -- ## The row
 
 pub follows_settled : (contexts new_contexts : ContextStore) (timers new_timers : List Timer) (bus new_bus : BusStore) (history : List Traced) (at : EntryNo) (pass : PassNo) (call : Call) (reply : Reply) (request : MessageId) (outcome : Outcome) →
-    StoresStand contexts timers bus history → IsNext at history → Ends history (plain_entry pass call reply) request outcome [] → reply ≡ row history pass call →
+    StoresStand contexts timers bus history → IsNext at history → Ends history (plain_entry pass call reply no_mark) request outcome [] → reply ≡ row history pass call →
     ending.Settles contexts new_contexts timers new_timers bus new_bus at request outcome → Follows new_contexts new_timers new_bus history pass call reply
 follows_settled contexts new_contexts timers new_timers bus new_bus history at pass call reply request outcome stands is_next ends answered settles =
-    let entry = plain_entry pass call reply in
+    let entry = plain_entry pass call reply no_mark in
     record {
       answered = answered;
       stores = record {
+        built = built_more history entry stands.built ends.built;
         contexts = contexts_settled contexts new_contexts bus history entry at request outcome [] ends is_next stands.contexts stands.bus settles.items;
-        timers = timers_settled timers new_timers bus history entry request outcome [] ends stands.bus
+        timers = timers_settled timers new_timers bus history entry request outcome [] stands.built ends stands.bus
             (stands.timers ∙ ap (λ requests. map timer_of (by_due requests)) (sym (append-nil (unsettled history)))) (λ found is_found. refl) settles.timers;
-        bus = bus_settled bus new_bus history entry at request outcome [] ends is_next stands.bus settles.tasks (settles.left ∙ sym (append-nil _)) settles.ended;
+        bus = bus_settled bus new_bus history entry at request outcome [] stands.built ends is_next stands.bus settles.tasks (settles.left ∙ sym (append-nil _)) settles.ended;
       };
     }
 
@@ -297,44 +321,48 @@ pub coded_same : (bus : BusStore) (history : List Traced) (codec : Option (List 
 coded_same bus history None body stands = refl
 coded_same bus history (Some name) body stands = ap (λ codecs. coded_by (find (is_codec name) codecs) body) stands.codecs
 
-pub ends_reply : (history : List Traced) (pass : PassNo) (message : MessageId) (body : Tree) (options : Options) →
-    Ends history (plain_entry pass (calls.Reply message body options) replies.Done) message (replied history body options None) []
-ends_reply history pass message body options = record {
-  contexts = refl;
-  held = refl;
-  finished = λ held. refl;
-  consumers = record { registered = refl; kept = λ consumer. refl };
-  numbers = numbers_left history _ (λ consumer. mailbox_unmoved history (plain_entry pass (calls.Reply message body options) replies.Done) consumer refl);
-  choices = refl;
-  given = refl;
-  codecs = record { added = refl; kept = λ codec. refl };
-  rules = record { added = refl; kept = λ rule. refl };
-  tasks = refl;
-  untaken = λ task. refl;
-  items = refl;
-  kept = λ item. refl;
-  settled = refl;
-  opened = refl;
-  closed = λ one. refl;
-}
+pub ends_reply : (history : List Traced) (pass : PassNo) (message : MessageId) (body : Tree) (options : Options) → AreBuilt history →
+    Ends history (plain_entry pass (calls.Reply message body options) replies.Done no_mark) message (replied history body options None) []
+ends_reply history pass message body options built =
+    let entry = plain_entry pass (calls.Reply message body options) replies.Done no_mark in
+    let one : IsBuilt entry = record { call = refl; mark = refl } in
+    record {
+      built = one;
+      contexts = record { items = record { contexts = refl; queued = refl }; pools = refl; held = refl; finished = λ held. refl };
+      consumers = record { registered = refl; kept = λ consumer. consumer_kept history entry consumer built one refl };
+      numbers = numbers_left history entry (λ consumer. mailbox_unmoved history entry consumer (ap (λ b. move_if b moves.ends) (consumer_kept history entry consumer built one refl)));
+      choices = refl;
+      given = refl;
+      codecs = record { added = refl; kept = λ codec. refl };
+      rules = record { added = refl; kept = λ rule. refl };
+      tasks = refl;
+      untaken = λ task. refl;
+      items = refl;
+      kept = λ item. refl;
+      settled = refl;
+      opened = refl;
+      closed = λ request. settled_alone (is_one message request) request.asker;
+    }
 
-pub ends_fail : (history : List Traced) (pass : PassNo) (message : MessageId) (code : ℤ) (text : List ℕ) →
-    Ends history (plain_entry pass (calls.Fail message code text) replies.Done) message (failed failures.RecipientFailure code text) []
-ends_fail history pass message code text = record {
-  contexts = refl;
-  held = refl;
-  finished = λ held. refl;
-  consumers = record { registered = refl; kept = λ consumer. refl };
-  numbers = numbers_left history _ (λ consumer. mailbox_unmoved history (plain_entry pass (calls.Fail message code text) replies.Done) consumer refl);
-  choices = refl;
-  given = refl;
-  codecs = record { added = refl; kept = λ codec. refl };
-  rules = record { added = refl; kept = λ rule. refl };
-  tasks = refl;
-  untaken = λ task. refl;
-  items = refl;
-  kept = λ item. refl;
-  settled = refl;
-  opened = refl;
-  closed = λ one. refl;
-}
+pub ends_fail : (history : List Traced) (pass : PassNo) (message : MessageId) (code : ℤ) (text : List ℕ) → AreBuilt history →
+    Ends history (plain_entry pass (calls.Fail message code text) replies.Done no_mark) message (failed failures.RecipientFailure code text) []
+ends_fail history pass message code text built =
+    let entry = plain_entry pass (calls.Fail message code text) replies.Done no_mark in
+    let one : IsBuilt entry = record { call = refl; mark = refl } in
+    record {
+      built = one;
+      contexts = record { items = record { contexts = refl; queued = refl }; pools = refl; held = refl; finished = λ held. refl };
+      consumers = record { registered = refl; kept = λ consumer. consumer_kept history entry consumer built one refl };
+      numbers = numbers_left history entry (λ consumer. mailbox_unmoved history entry consumer (ap (λ b. move_if b moves.ends) (consumer_kept history entry consumer built one refl)));
+      choices = refl;
+      given = refl;
+      codecs = record { added = refl; kept = λ codec. refl };
+      rules = record { added = refl; kept = λ rule. refl };
+      tasks = refl;
+      untaken = λ task. refl;
+      items = refl;
+      kept = λ item. refl;
+      settled = refl;
+      opened = refl;
+      closed = λ request. settled_alone (is_one message request) request.asker;
+    }

@@ -1,6 +1,7 @@
 -- Copies of one message for several consumers.
 use Rattle.std.specs.Prelude.{ℕ, ◌+◌, if◌then◌else◌, List, [], ◌∷◌, ◌++◌}
 use Rattle.vx_data.specs.declared.ids.EntryNo.{EntryNo}
+use Rattle.vx_message.specs.declared.Context.{Context}
 use Rattle.vx_message.specs.declared.Item.{Item}
 use Rattle.vx_message.specs.declared.Message.{Message}
 use Rattle.vx_call.specs.declared.reply.Task.{Task}
@@ -19,9 +20,9 @@ abbrev pub next_place : ℕ → Parcel → ℕ
 next_place place parcel = if is_ready parcel.recipient.arrive then place + 1 else place
 
 -- the items of those of these messages that are made ready, in order, at places from this one on
-abbrev pub parcel_items : EntryNo → ℕ → List Parcel → List Item
-parcel_items at place [] = []
-parcel_items at place (parcel ∷ parcels) = ready_item at place parcel.recipient parcel.message.id ++ parcel_items at (next_place place parcel) parcels
+abbrev pub parcel_items : List Context → EntryNo → ℕ → List Parcel → List Item
+parcel_items made at place [] = []
+parcel_items made at place (parcel ∷ parcels) = ready_item made at place parcel.recipient parcel.message.id ++ parcel_items made at (next_place place parcel) parcels
 
 -- how many of them are made ready
 abbrev pub ready_count : List Parcel → ℕ

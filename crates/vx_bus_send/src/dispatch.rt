@@ -16,7 +16,7 @@ use vx_context::Contexts;
 use vx_data::{EntryNo, PassNo};
 use vx_timer::Timers;
 
-/// Whether the call is Send, Publish, Request, Reply, Fail or ReplyRequest.
+/// Whether the call is Send, Publish, Request without a handler that is called once, Reply, Fail or ReplyRequest.
 pub fn is_sending_call(call: &Call) -> bool
     ensures { result ≡ is_sending_call call.now }
 {
@@ -24,7 +24,7 @@ pub fn is_sending_call(call: &Call) -> bool
         call,
         Call::Send { .. }
             | Call::Publish { .. }
-            | Call::Request { .. }
+            | Call::Request { once: None, .. }
             | Call::Reply { .. }
             | Call::Fail { .. }
             | Call::ReplyRequest { .. }
@@ -69,6 +69,7 @@ pub fn step(
             body,
             options,
             timeout,
+            once: None,
         } => request(
             contexts, timers, bus, at, now, pass, context, address, body, options, timeout,
         ),

@@ -77,7 +77,7 @@ fn publish_on(
     requires deep { tree_depth body.now ≤ 100 }
     requires pairs { length options.now.headers ≤ 1024 }
     requires bytes { header_bytes options.now.headers ≤ 65536 }
-    ensures ok { IfOk result (λ reached. (history : List Traced) → StoresStand contexts.old timers.now bus.old history → IsNext at history → send_refusal history address.now body.now options.now ≡ None → Follows contexts.new timers.now bus.new history pass (calls.Publish address.now body.now options.now) (replies.Published reached.items)) }
+    ensures ok { IfOk result (λ reached. (history : List Traced) → StoresStand contexts.old timers.now bus.old history → IsNext at history → send_refusal history pass address.now body.now options.now ≡ None → Follows contexts.new timers.now bus.new history pass (calls.Publish address.now body.now options.now) (replies.Published reached.items)) }
     ensures err { OnErr result ((history : List Traced) → StoresStand contexts.old timers.now bus.old history → StoresStand contexts.new timers.now bus.new history) }
     ensures places { HavePlaces contexts.new bus.new }
 {
@@ -141,7 +141,7 @@ fn names(alloc: Global, recipients: &[Recipient]) -> Result<Vec<ConsumerId>, NoM
 fn deliver_each(contexts: &mut Contexts, bus: &mut Bus, at: EntryNo, parcels: Vec<Parcel>)
     requires items { ready_count parcels.items ≤ contexts.old.room }
     requires tasks { length parcels.items ≤ bus.old.room }
-    ensures items { contexts.new ≡ record contexts.old { waiting = contexts.old.waiting ++ parcel_items at 0 parcels.items; room = contexts.new.room } }
+    ensures items { contexts.new ≡ record contexts.old { waiting = contexts.old.waiting ++ parcel_items contexts.old.made at 0 parcels.items; room = contexts.new.room } }
     ensures tasks { bus.new ≡ record bus.old { tasks = bus.old.tasks ++ map parcel_task parcels.items; room = bus.new.room } }
     ensures items_room { contexts.old.room ≤ contexts.new.room + ready_count parcels.items }
     ensures tasks_room { bus.old.room ≤ bus.new.room + length parcels.items }

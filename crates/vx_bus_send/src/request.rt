@@ -37,9 +37,9 @@ pub fn request(
     requires early { now ≤ 2 ^ 62 }
     requires places { HavePlaces contexts.old bus.old }
     requires one { AreOfOneHistory contexts.old timers.old bus.old }
-    ensures ok { IfOk result (λ reply. (history : List Traced) → StoresStand contexts.old timers.old bus.old history → IsAt at now history → Follows contexts.new timers.new bus.new history pass (Call.Request context address body options timeout) reply) }
+    ensures ok { IfOk result (λ reply. (history : List Traced) → StoresStand contexts.old timers.old bus.old history → IsAt at now history → Follows contexts.new timers.new bus.new history pass (Call.Request context address body options timeout None) reply) }
     ensures err { OnErr result ((history : List Traced) → StoresStand contexts.old timers.old bus.old history → StoresStand contexts.new timers.new bus.new history) }
-    ensures back { IfErr result (λ unmade. unmade.call ≡ Call.Request context address body options timeout) }
+    ensures back { IfErr result (λ unmade. unmade.call ≡ Call.Request context address body options timeout None) }
     ensures places { HavePlaces contexts.new bus.new }
 {
     if let Some(refusal) = request_refusal(
@@ -59,6 +59,7 @@ pub fn request(
                 body,
                 options,
                 timeout,
+                once: None,
             },
         }),
     }
@@ -82,7 +83,7 @@ fn ask(
     requires deep { tree_depth body.now ≤ 100 }
     requires pairs { length options.now.headers ≤ 1024 }
     requires bytes { header_bytes options.now.headers ≤ 65536 }
-    ensures ok { IfOk result (λ to. (history : List Traced) (pass : PassNo) (now timeout : ℕ) → StoresStand contexts.old timers.old bus.old history → IsAt at now history → due ≡ now + timeout → request_refusal history pass context address.now body.now options.now timeout ≡ None → Follows contexts.new timers.new bus.new history pass (calls.Request context address.now body.now options.now timeout) (replies.Asked to)) }
+    ensures ok { IfOk result (λ to. (history : List Traced) (pass : PassNo) (now timeout : ℕ) → StoresStand contexts.old timers.old bus.old history → IsAt at now history → due ≡ now + timeout → request_refusal history pass context address.now body.now options.now timeout ≡ None → Follows contexts.new timers.new bus.new history pass (calls.Request context address.now body.now options.now timeout None) (replies.Asked to)) }
     ensures err { OnErr result ((history : List Traced) → StoresStand contexts.old timers.old bus.old history → StoresStand contexts.new timers.new bus.new history) }
     ensures places { HavePlaces contexts.new bus.new }
 {

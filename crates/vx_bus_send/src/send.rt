@@ -69,7 +69,7 @@ fn send_on(
     requires deep { tree_depth body.now ≤ 100 }
     requires pairs { length options.now.headers ≤ 1024 }
     requires bytes { header_bytes options.now.headers ≤ 65536 }
-    ensures ok { IfOk result (λ to. (history : List Traced) → StoresStand contexts.old timers.now bus.old history → IsNext at history → send_refusal history address.now body.now options.now ≡ None → Follows contexts.new timers.now bus.new history pass (calls.Send address.now body.now options.now) (replies.Sent to)) }
+    ensures ok { IfOk result (λ to. (history : List Traced) → StoresStand contexts.old timers.now bus.old history → IsNext at history → send_refusal history pass address.now body.now options.now ≡ None → Follows contexts.new timers.now bus.new history pass (calls.Send address.now body.now options.now) (replies.Sent to)) }
     ensures err { OnErr result ((history : List Traced) → StoresStand contexts.old timers.now bus.old history → StoresStand contexts.new timers.now bus.new history) }
     ensures places { HavePlaces contexts.new bus.new }
 {

@@ -1,6 +1,6 @@
 -- Entries that leave a store: one lemma a store, and one for each part that an entry may leave alone.
 use Rattle.std.proofs.Common.{◌≡◌, ℕ, List, [], ◌∷◌, ◌++◌, refl, ap, sym, ◌∙◌}
-use Rattle.std.specs.Prelude.{Bool, true, false, not, ◌&&◌, filter, find, map}
+use Rattle.std.specs.Prelude.{Bool, true, false, not, ◌&&◌, ◌||◌, filter, find, map, Option}
 use Rattle.std.specs.List.{count_by}
 use Rattle.std.specs.Option.{option_map}
 use Rattle.std.specs.Str.{bytes_eq}
@@ -9,7 +9,9 @@ use Rattle.vx_data.specs.declared.ids.MessageId.{MessageId}
 use Rattle.vx_data.specs.Ids.{same_message}
 use Rattle.vx_message.specs.declared.Held.{Held}
 use Rattle.vx_message.specs.declared.Given.{Given}
-use Rattle.vx_message.specs.declared.OutsideContext.{OutsideContext}
+use Rattle.vx_message.specs.declared.Owner.{Owner}
+use Rattle.vx_message.specs.declared.Owner.TheVariants as owners
+use Rattle.vx_message.specs.declared.Pool.{Pool}
 use Rattle.vx_message.specs.declared.rules.Codec.{Codec}
 use Rattle.vx_message.specs.declared.rules.Rule.{Rule}
 use Rattle.vx_timer.specs.declared.timers.Timer.{Timer}
@@ -21,26 +23,33 @@ use Rattle.vx_call.specs.declared.reply.Reply.TheVariants as replies
 use Rattle.vx_call.specs.declared.reply.Task.{Task}
 use Rattle.vx_call.specs.declared.history.Consumer.{Consumer}
 use Rattle.vx_call.specs.declared.history.Traced.{Traced}
-use Rattle.vx_call.specs.History.{made_by, ended_by, is_accepted, plain_entry}
+use Rattle.vx_call.specs.History.{made_by, ended_by, is_accepted, plain_entry, no_mark}
+use Rattle.vx_call.specs.declared.history.Mark.{Mark}
+use Rattle.vx_call.specs.Built.{is_built, IsBuilt, AreBuilt}
+use Rattle.vx_call.specs.Connections.{is_one_of}
 use Rattle.vx_call.specs.Contexts.{context_kind}
-use Rattle.vx_call.specs.Consumers.{consumer_kind, consumers, handlers, is_at}
+use Rattle.vx_call.specs.Consumers.{ends_by_name, closes_owner, consumer_kind, consumers, handlers, is_at}
+use Rattle.vx_call.specs.Pools.{pool_kind, pools}
+use Rattle.vx_call.specs.Queued.{queued_kind}
 use Rattle.vx_call.specs.Mailboxes.{mailbox}
 use Rattle.vx_call.specs.Codecs.{codec_kind, codecs}
 use Rattle.vx_call.specs.Rules.{rule_kind, rules}
 use Rattle.vx_call.specs.Choices.{choice_kind, choices, is_empty}
 use Rattle.vx_call.specs.Given.{given_kind, given}
 use Rattle.vx_call.specs.Requests.{Open, open_kind, unsettled, by_due}
-use Rattle.vx_call.specs.Settled.{Settled, settled_kind, settled}
+use Rattle.vx_call.specs.Settled.{Settled, settled_kind, settled, settled_at}
 use Rattle.vx_call.specs.Items.{Waiting, item_kind, waiting, task_kind, untaken}
 use Rattle.vx_call.specs.Held.{held_kind}
 use Rattle.vx_call.specs.Rows.{ids_of}
 use Rattle.vx_call.specs.Machine.{row}
 use Rattle.vx_call.proofs.Lasting.{lasting_same, and_false}
+use Rattle.vx_call.proofs.Built.{built_more, closes_none, settled_by_outcome}
 use Rattle.vx_call.proofs.Each.{weaken}
 use Rattle.vx_call.proofs.Consumers.{IsLive, consumers_live}
 use Rattle.vx_call.proofs.Mailboxes.{mailbox_same}
 use Rattle.vx_context.specs.Stores.{ContextStore, item_of}
 use Rattle.vx_context.specs.Stands.{ContextsStand}
+use Rattle.vx_context.proofs.Items.{LeavesItems, contexts_stay, items_left}
 use Rattle.vx_bus_store.specs.declared.bus.Handler.{Handler}
 use Rattle.vx_bus_store.specs.Stores.{BusStore, handler_of, row_of, timer_of}
 use Rattle.vx_bus_store.specs.Stands.{BusStands, TimersStand, StoresStand, Follows}
@@ -58,21 +67,27 @@ waiting_left history new leaves = lasting_same item_kind history new leaves.none
 
 -- ## The contexts
 
-pub never_ended : (history : List Traced) (new : Traced) (context : OutsideContext) → ended_by context_kind history new context ≡ false
-never_ended history new context = and_false (is_accepted new.entry.reply)
+-- pools are not ended
+pub pools_stay : (history : List Traced) (new : Traced) → made_by pool_kind history new ≡ [] → pools (history ++ new ∷ []) ≡ pools history
+pools_stay history new none = lasting_same pool_kind history new none (λ pool. and_false (is_accepted new.entry.reply))
 
--- an entry that makes no context, hands out no task, finishes none and leaves those that wait
+-- an entry that makes no context and no pool, hands no code to a context, hands out no task, finishes none and leaves those
+-- that wait
 pub record LeavesContexts (history : List Traced) (new : Traced) : Type 0 where
-  pub contexts : made_by context_kind history new ≡ []
+  pub items : LeavesItems history new
+  pub pools : made_by pool_kind history new ≡ []
   pub held : made_by held_kind history new ≡ []
   pub finished : (held : Held) → ended_by held_kind history new held ≡ false
   pub waiting : LeavesWaiting history new
 
 pub contexts_left : (store : ContextStore) (history : List Traced) (new : Traced) → LeavesContexts history new → ContextsStand store history → ContextsStand store (history ++ new ∷ [])
 contexts_left store history new leaves stands = record {
-  made = stands.made ∙ sym (lasting_same context_kind history new leaves.contexts (never_ended history new));
+  made = stands.made ∙ sym (contexts_stay history new leaves.items.contexts);
   held = stands.held ∙ sym (lasting_same held_kind history new leaves.held leaves.finished);
-  waiting = stands.waiting ∙ ap (map item_of) (sym (waiting_left history new leaves.waiting));
+  pools = stands.pools ∙ sym (pools_stay history new leaves.pools);
+  waiting =
+      stands.waiting ∙ ap (map (item_of history)) (sym (waiting_left history new leaves.waiting))
+      ∙ sym (items_left history new leaves.items (waiting (history ++ new ∷ [])));
 }
 
 -- ## The timers
@@ -97,6 +112,30 @@ pub record LeavesConsumers (history : List Traced) (new : Traced) : Type 0 where
 
 pub consumers_left : (history : List Traced) (new : Traced) → LeavesConsumers history new → consumers (history ++ new ∷ []) ≡ consumers history
 consumers_left history new leaves = lasting_same consumer_kind history new leaves.registered leaves.kept
+
+-- no owner is closed
+pub owner_open : (history : List Traced) (new : Traced) (owner : Owner) → AreBuilt history → IsBuilt new → closes_owner history new.entry.pass new.entry.call new.mark owner ≡ false
+owner_open history new (owners.Context context) built one = closes_none history new.entry.pass new.entry.call context built one.call
+owner_open history new (owners.Conn conn) built one = ap (λ (mark : Mark). is_one_of mark.shut conn) one.mark
+owner_open history new (owners.Pass pass) built one = refl
+
+or_false : (b : Bool) → (b || false) ≡ b
+or_false true = refl
+or_false false = refl
+
+-- so a consumer is ended by its name alone
+pub ended_by_name : (history : List Traced) (new : Traced) (consumer : Consumer) → AreBuilt history → IsBuilt new →
+    ended_by consumer_kind history new consumer ≡ (is_accepted new.entry.reply && ends_by_name new.entry.call new.mark.deed consumer.id)
+ended_by_name history new consumer built one =
+    let named = ends_by_name new.entry.call new.mark.deed consumer.id in
+    ap (λ b. is_accepted new.entry.reply && (named || b)) (owner_open history new consumer.owner built one)
+    ∙ ap (λ b. is_accepted new.entry.reply && b) (or_false named)
+
+-- ... and by no call that ends none by name
+pub consumer_kept : (history : List Traced) (new : Traced) (consumer : Consumer) → AreBuilt history → IsBuilt new → ends_by_name new.entry.call new.mark.deed consumer.id ≡ false →
+    ended_by consumer_kind history new consumer ≡ false
+consumer_kept history new consumer built one none =
+    ended_by_name history new consumer built one ∙ ap (λ b. is_accepted new.entry.reply && b) none ∙ and_false (is_accepted new.entry.reply)
 
 -- an entry that leaves the numbers of each live consumer's mailbox
 abbrev pub LeavesNumbers : List Traced → Traced → Type 0
@@ -153,8 +192,17 @@ tasks_left history new leaves = lasting_same task_kind history new leaves.made l
 pub never_settled : (history : List Traced) (new : Traced) (settled : Settled) → ended_by settled_kind history new settled ≡ false
 never_settled history new settled = and_false (is_accepted new.entry.reply)
 
-pub ended_left : (history : List Traced) (new : Traced) (id : MessageId) → made_by settled_kind history new ≡ [] → settled (history ++ new ∷ []) id ≡ settled history id
-ended_left history new id none = ap (find (λ (s : Settled). same_message id s.request)) (lasting_same settled_kind history new none (never_settled history new))
+pub outcome_left : (history : List Traced) (new : Traced) (id : MessageId) → made_by settled_kind history new ≡ [] → settled (history ++ new ∷ []) id ≡ settled history id
+outcome_left history new id none = ap (find (λ (s : Settled). same_message id s.request)) (lasting_same settled_kind history new none (never_settled history new))
+
+-- where requests end with an outcome alone
+pub ended_by_outcome : (history : List Traced) (new : Traced) (id : MessageId) → AreBuilt history → IsBuilt new → (end : Option Settled) → settled (history ++ new ∷ []) id ≡ end →
+    settled_at (history ++ new ∷ []) id ≡ option_map (λ (s : Settled). s.at) end
+ended_by_outcome history new id built one end is = settled_by_outcome (history ++ new ∷ []) id (built_more history new built one) ∙ ap (option_map (λ (s : Settled). s.at)) is
+
+pub ended_left : (history : List Traced) (new : Traced) (id : MessageId) → AreBuilt history → IsBuilt new → made_by settled_kind history new ≡ [] → settled_at (history ++ new ∷ []) id ≡ settled_at history id
+ended_left history new id built one none =
+    ended_by_outcome history new id built one (settled history id) (outcome_left history new id none) ∙ sym (settled_by_outcome history id built)
 
 pub never_taken_back : (history : List Traced) (new : Traced) (given : Given) → ended_by given_kind history new given ≡ false
 never_taken_back history new given = and_false (is_accepted new.entry.reply)
@@ -194,14 +242,14 @@ pub record LeavesBus (history : List Traced) (new : Traced) : Type 0 where
   pub codecs : LeavesCodecs history new
   pub rules : LeavesRules history new
 
-pub bus_left : (store : BusStore) (history : List Traced) (new : Traced) → LeavesBus history new → BusStands store history → BusStands store (history ++ new ∷ [])
-bus_left store history new leaves stands = record {
+pub bus_left : (store : BusStore) (history : List Traced) (new : Traced) → AreBuilt history → IsBuilt new → LeavesBus history new → BusStands store history → BusStands store (history ++ new ∷ [])
+bus_left store history new built one leaves stands = record {
   consumers = stands.consumers ∙ sym (handlers_left history new leaves.consumers leaves.numbers);
   rings = λ address. stands.rings address ∙ sym (rings_left history new address leaves.consumers);
   choices = λ address. stands.choices address ∙ sym (choices_left history new address leaves.consumers leaves.choices);
   tasks = stands.tasks ∙ sym (tasks_left history new leaves.tasks);
   opened = stands.opened ∙ ap (map row_of) (sym (requests_left history new leaves.requests));
-  ended = λ id. stands.ended id ∙ ap (option_map (λ (s : Settled). s.at)) (sym (ended_left history new id leaves.settled));
+  ended = λ id. stands.ended id ∙ sym (ended_left history new id built one leaves.settled);
   given = λ id. stands.given id ∙ sym (given_left history new id leaves.given);
   codecs = stands.codecs ∙ sym (codecs_left history new leaves.codecs);
   rules = stands.rules ∙ sym (rules_left history new leaves.rules);
@@ -211,15 +259,15 @@ bus_left store history new leaves stands = record {
 
 -- a refused call leaves the contexts
 pub refused_contexts : (store : ContextStore) (history : List Traced) (pass : PassNo) (call : Call) (refusal : Refusal) → ContextsStand store history →
-    ContextsStand store (history ++ plain_entry pass call (replies.Refused refusal) ∷ [])
-refused_contexts store history pass call refusal stands = contexts_left store history (plain_entry pass call (replies.Refused refusal))
-    (record { contexts = refl; held = refl; finished = λ h. refl; waiting = record { none = refl; kept = λ w. refl } }) stands
+    ContextsStand store (history ++ plain_entry pass call (replies.Refused refusal) no_mark ∷ [])
+refused_contexts store history pass call refusal stands = contexts_left store history (plain_entry pass call (replies.Refused refusal) no_mark)
+    (record { items = record { contexts = refl; queued = refl }; pools = refl; held = refl; finished = λ h. refl; waiting = record { none = refl; kept = λ w. refl } }) stands
 
 -- ... and the bus
-pub refused_bus : (history : List Traced) (pass : PassNo) (call : Call) (refusal : Refusal) → LeavesBus history (plain_entry pass call (replies.Refused refusal))
+pub refused_bus : (history : List Traced) (pass : PassNo) (call : Call) (refusal : Refusal) → LeavesBus history (plain_entry pass call (replies.Refused refusal) no_mark)
 refused_bus history pass call refusal = record {
   consumers = record { registered = refl; kept = λ c. refl };
-  numbers = numbers_left history (plain_entry pass call (replies.Refused refusal)) (λ consumer. mailbox_same history (plain_entry pass call (replies.Refused refusal)) consumer refl);
+  numbers = numbers_left history (plain_entry pass call (replies.Refused refusal) no_mark) (λ consumer. mailbox_same history (plain_entry pass call (replies.Refused refusal) no_mark) consumer refl);
   choices = refl;
   tasks = record { made = refl; kept = λ t. refl };
   requests = record { opened = refl; settled = λ r. refl };
@@ -230,18 +278,20 @@ refused_bus history pass call refusal = record {
 }
 
 -- a refused call leaves all stores
-pub refused_stores : (contexts : ContextStore) (timers : List Timer) (bus : BusStore) (history : List Traced) (pass : PassNo) (call : Call) (refusal : Refusal) → StoresStand contexts timers bus history →
-    StoresStand contexts timers bus (history ++ plain_entry pass call (replies.Refused refusal) ∷ [])
-refused_stores contexts timers bus history pass call refusal stands =
-    let entry = plain_entry pass call (replies.Refused refusal) in
+pub refused_stores : (contexts : ContextStore) (timers : List Timer) (bus : BusStore) (history : List Traced) (pass : PassNo) (call : Call) (refusal : Refusal) → is_built call ≡ true → StoresStand contexts timers bus history →
+    StoresStand contexts timers bus (history ++ plain_entry pass call (replies.Refused refusal) no_mark ∷ [])
+refused_stores contexts timers bus history pass call refusal is stands =
+    let entry = plain_entry pass call (replies.Refused refusal) no_mark in
+    let one : IsBuilt entry = record { call = is; mark = refl } in
     record {
+      built = built_more history entry stands.built one;
       contexts = refused_contexts contexts history pass call refusal stands.contexts;
       timers = timers_left timers history entry (record { opened = refl; settled = λ r. refl }) stands.timers;
-      bus = bus_left bus history entry (refused_bus history pass call refusal) stands.bus;
+      bus = bus_left bus history entry stands.built one (refused_bus history pass call refusal) stands.bus;
     }
 
 -- a refused call follows, where the refusal is that of its row
-pub follows_refused : (contexts : ContextStore) (timers : List Timer) (bus : BusStore) (history : List Traced) (pass : PassNo) (call : Call) (refusal : Refusal) → StoresStand contexts timers bus history →
+pub follows_refused : (contexts : ContextStore) (timers : List Timer) (bus : BusStore) (history : List Traced) (pass : PassNo) (call : Call) (refusal : Refusal) → is_built call ≡ true → StoresStand contexts timers bus history →
     replies.Refused refusal ≡ row history pass call → Follows contexts timers bus history pass call (replies.Refused refusal)
-follows_refused contexts timers bus history pass call refusal stands answered =
-    record { answered = answered; stores = refused_stores contexts timers bus history pass call refusal stands }
+follows_refused contexts timers bus history pass call refusal is stands answered =
+    record { answered = answered; stores = refused_stores contexts timers bus history pass call refusal is stands }

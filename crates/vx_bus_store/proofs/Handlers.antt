@@ -5,7 +5,8 @@ use Rattle.std.specs.Option.{option_map}
 use Rattle.vx_data.specs.declared.ids.ConsumerId.{ConsumerId}
 use Rattle.vx_call.specs.declared.history.Consumer.{Consumer}
 use Rattle.vx_call.specs.declared.history.Traced.{Traced}
-use Rattle.vx_call.specs.Consumers.{consumers, live, is_named}
+use Rattle.vx_call.specs.Consumers.{consumers, live}
+use Rattle.vx_call.specs.Registered.{is_named}
 use Rattle.vx_bus_store.specs.declared.bus.Handler.{Handler}
 use Rattle.vx_bus_store.specs.Stores.{BusStore, handler_of, handler_in, names}
 use Rattle.vx_bus_store.specs.Stands.{BusStands}

@@ -5,3 +5,5 @@ pub mod Positions
 pub mod Changes
 pub mod HeldCounts
 pub mod Limits
+pub mod KeptRequests
+pub mod Kept

@@ -1,6 +1,5 @@
 -- The histories that the bus stands for, with the stores that it is lent.
 use Rattle.std.specs.Prelude.{◌≡◌, ℕ, ◌≤◌, ◌+◌, not, List, [], ◌∷◌, ◌++◌, length, map}
-use Rattle.std.specs.Option.{option_map}
 use Rattle.vx_data.specs.declared.ids.EntryNo.{EntryNo}
 use Rattle.vx_data.specs.declared.ids.PassNo.{PassNo}
 use Rattle.vx_data.specs.declared.ids.MessageId.{MessageId}
@@ -10,13 +9,14 @@ use Rattle.vx_request.specs.Stores.{ended_at, given_at}
 use Rattle.vx_call.specs.declared.call.Call.{Call}
 use Rattle.vx_call.specs.declared.reply.Reply.{Reply}
 use Rattle.vx_call.specs.declared.history.Traced.{Traced}
-use Rattle.vx_call.specs.History.{plain_entry}
+use Rattle.vx_call.specs.History.{plain_entry, no_mark}
 use Rattle.vx_call.specs.Consumers.{consumers, handlers}
 use Rattle.vx_call.specs.Choices.{choices}
 use Rattle.vx_call.specs.Given.{given}
-use Rattle.vx_call.specs.Requests.{unsettled, by_due, now}
-use Rattle.vx_call.specs.Settled.{Settled, settled}
-use Rattle.vx_call.specs.declared.reply.Task.TheVariants as tasks
+use Rattle.vx_call.specs.Requests.{unsettled, by_due}
+use Rattle.vx_call.specs.Time.{now}
+use Rattle.vx_call.specs.Settled.{settled_at}
+use Rattle.vx_call.specs.Built.{AreBuilt}
 use Rattle.vx_call.specs.Codecs.{codecs}
 use Rattle.vx_call.specs.Rules.{rules}
 use Rattle.vx_call.specs.Items.{untaken}
@@ -34,7 +34,7 @@ pub record BusStands (store : BusStore) (history : List Traced) : Type 0 where
   pub choices : (address : List ℕ) → choices_at address store.rings ≡ choices history address
   pub tasks : store.tasks ≡ untaken history
   pub opened : store.requests.waiting ≡ map row_of (unsettled history)
-  pub ended : (id : MessageId) → ended_at id store.requests.ended ≡ option_map (λ (s : Settled). s.at) (settled history id)
+  pub ended : (id : MessageId) → ended_at id store.requests.ended ≡ settled_at history id
   pub given : (id : MessageId) → given_at id store.given ≡ given history id
   pub codecs : store.codecs ≡ codecs history
   pub rules : store.rules ≡ rules history
@@ -43,8 +43,9 @@ pub record BusStands (store : BusStore) (history : List Traced) : Type 0 where
 abbrev pub TimersStand : List Timer → List Traced → Type 0
 TimersStand timers history = timers ≡ map timer_of (by_due (unsettled history))
 
--- all three are those of the history
+-- all three are those of the history, whose calls are those that have a body
 pub record StoresStand (context_store : ContextStore) (timer_list : List Timer) (bus_store : BusStore) (history : List Traced) : Type 0 where
+  pub built : AreBuilt history
   pub contexts : ContextsStand context_store history
   pub timers : TimersStand timer_list history
   pub bus : BusStands bus_store history
@@ -70,7 +71,7 @@ pub record HaveRoom (contexts : ContextStore) (bus : BusStore) (more : ℕ) : Ty
 -- the reply is that of the call's row, and the stores are those of the history with this entry
 pub record Follows (contexts : ContextStore) (timers : List Timer) (bus : BusStore) (history : List Traced) (pass : PassNo) (call : Call) (reply : Reply) : Type 0 where
   pub answered : reply ≡ row history pass call
-  pub stores : StoresStand contexts timers bus (history ++ plain_entry pass call reply ∷ [])
+  pub stores : StoresStand contexts timers bus (history ++ plain_entry pass call reply no_mark ∷ [])
 
 -- the entry's number and the moment are those of the history
 pub record IsAt (at : EntryNo) (moment : ℕ) (history : List Traced) : Type 0 where

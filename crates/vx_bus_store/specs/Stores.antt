@@ -1,11 +1,12 @@
 -- What the bus contains, however it keeps it.
-use Rattle.std.specs.Prelude.{◌≡◌, ℕ, ◌+◌, ◌≤◌, length, filter, Bool, find, is_some, if◌then◌else◌, List, [], ◌∷◌, Option, None, Some}
+use Rattle.std.specs.Prelude.{◌≡◌, ℕ, ◌+◌, ◌≤◌, length, filter, Bool, true, false, find, is_some, if◌then◌else◌, List, [], ◌∷◌, Option, None, Some}
 use Rattle.vx_data.specs.declared.ids.ConsumerId.{ConsumerId}
 use Rattle.vx_data.specs.declared.ids.EntryNo.{EntryNo}
 use Rattle.vx_data.specs.declared.ids.MessageId.{MessageId}
 use Rattle.vx_data.specs.Tree.{Tree}
 use Rattle.vx_message.specs.declared.Message.{Message}
 use Rattle.vx_message.specs.declared.Options.{Options}
+use Rattle.vx_message.specs.declared.Context.{Context}
 use Rattle.vx_message.specs.declared.Item.{Item}
 use Rattle.vx_message.specs.declared.rules.Codec.{Codec}
 use Rattle.vx_message.specs.declared.rules.Rule.{Rule}
@@ -27,14 +28,19 @@ use Rattle.vx_message.specs.declared.Owner.{Owner}
 use Rattle.vx_call.specs.declared.history.Consumer.{Consumer}
 use Rattle.vx_call.specs.declared.history.Traced.{Traced}
 use Rattle.vx_call.specs.Codecs.{coded_by}
-use Rattle.vx_call.specs.Consumers.{is_named, is_at}
+use Rattle.vx_call.specs.Askers.{Asker}
+use Rattle.vx_call.specs.Askers as askers
+use Rattle.vx_call.specs.Consumers.{is_at}
+use Rattle.vx_call.specs.Owners.{context_owning}
+use Rattle.vx_call.specs.Registered.{is_named}
 use Rattle.vx_call.specs.Mailboxes.{mailbox, is_ready}
 use Rattle.vx_message.specs.declared.ItemKind.TheVariants as kinds
 use Rattle.vx_bus_store.specs.declared.bus.Handler.{Handler}
 use Rattle.vx_bus_store.specs.declared.bus.Recipient.{Recipient}
 use Rattle.vx_call.specs.declared.reply.Task.{Task}
 use Rattle.vx_call.specs.Requests.{Open}
-use Rattle.vx_call.specs.Items.{kind_of, same_kind}
+use Rattle.vx_call.specs.Kinds.{kind_of, same_kind}
+use Rattle.vx_context.specs.Stores.{handler_item}
 
 -- the live consumers with their flows, whose turn it is at each address, the tasks that were not taken, the requests
 -- that wait and those that ended, the messages that were given out, the codecs and the rules, and for how many more tasks
@@ -126,9 +132,19 @@ abbrev pub without_first : {A : Type 0} → (A → Bool) → List A → List A
 without_first p [] = []
 without_first p (x ∷ xs) = if p x then xs else x ∷ without_first p xs
 
+-- whether tasks of this kind are the bus's: the messages for consumers, and the outcomes of requests
+abbrev pub is_kept_by_bus : ItemKind → Bool
+is_kept_by_bus (kinds.Deliver consumer message) = true
+is_kept_by_bus (kinds.Outcome request) = true
+is_kept_by_bus _ = false
+
+abbrev pub owner_asking : Asker → Owner
+owner_asking (askers.context context) = owners.Context context
+owner_asking (askers.connection conn at) = owners.Conn conn
+
 -- what the bus keeps of a request that waits
 abbrev pub row_of : Open → OpenRequest
-row_of request = record { id = request.id; asker = owners.Context request.asker; receiver = request.receiver }
+row_of request = record { id = request.id; asker = owner_asking request.asker; receiver = request.receiver }
 
 -- the timer of a request that waits
 abbrev pub timer_of : Open → Timer
@@ -136,17 +152,22 @@ timer_of request = record { id = request.id.0; due = request.due; period = None 
 
 -- a consumer that a message is for, and what becomes of the message there
 abbrev pub recipient_of : Handler → Recipient
-recipient_of handler = record { consumer = handler.consumer.id; context = handler.consumer.context; arrive = next_arrival handler }
+recipient_of handler = record { consumer = handler.consumer.id; home = context_owning handler.consumer.owner; arrive = next_arrival handler }
+
+-- the item of a handler's task, where there is a context that it is of
+abbrev pub home_item : List Context → EntryNo → ℕ → Option ContextId → ItemKind → List Item
+home_item made at place None kind = []
+home_item made at place (Some context) kind = handler_item made at place context kind ∷ []
 
 -- the item of a message that arrives at a consumer, where it is made ready
-abbrev pub ready_item : EntryNo → ℕ → Recipient → MessageId → List Item
-ready_item at place recipient message =
-    if is_ready recipient.arrive then record { entry = at; place = place; context = recipient.context; kind = kinds.Deliver recipient.consumer message } ∷ [] else []
+abbrev pub ready_item : List Context → EntryNo → ℕ → Recipient → MessageId → List Item
+ready_item made at place recipient message =
+    if is_ready recipient.arrive then home_item made at place recipient.home (kinds.Deliver recipient.consumer message) else []
 
 -- the items of a consumer's messages among these tasks, in order, at places from this one on
-abbrev pub message_items : EntryNo → ContextId → ℕ → List Task → List Item
-message_items at context place [] = []
-message_items at context place (task ∷ others) = record { entry = at; place = place; context = context; kind = kind_of task } ∷ message_items at context (place + 1) others
+abbrev pub message_items : List Context → EntryNo → ContextId → ℕ → List Task → List Item
+message_items made at context place [] = []
+message_items made at context place (task ∷ others) = handler_item made at place context (kind_of task) ∷ message_items made at context (place + 1) others
 
 -- a bus without consumers, tasks and requests
 pub record IsEmptyBus (store : BusStore) : Type 0 where
@@ -160,11 +181,7 @@ pub record IsEmptyBus (store : BusStore) : Type 0 where
   pub codecs : store.codecs ≡ []
   pub rules : store.rules ≡ []
 
-abbrev pub context_in : Owner → Option ContextId
-context_in (owners.Context context) = Some context
-context_in (owners.Pass pass) = None
-
 -- the context that asked
 abbrev pub asker_in : Option OpenRequest → Option ContextId
 asker_in None = None
-asker_in (Some row) = context_in row.asker
+asker_in (Some row) = context_owning row.asker

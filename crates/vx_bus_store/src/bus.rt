@@ -3,6 +3,7 @@ ghost use Rattle.std.specs.Option.{option_copied, option_map, option_or, option_
 ghost use Rattle.std.specs.Str.{bytes_eq};
 ghost use Rattle.vx_data.specs.declared.ids.MessageId.{MessageId};
 ghost use Rattle.vx_message.specs.declared.Given.{Given};
+ghost use Rattle.vx_message.specs.declared.ItemKind.TheVariants as kinds;
 ghost use Rattle.vx_message.specs.declared.Owner.TheVariants as owners;
 ghost use Rattle.vx_ring.specs.Rings.{is_empty, consumers_at, choices_at};
 ghost use Rattle.vx_request.specs.declared.requests.OpenRequest.{OpenRequest};
@@ -14,7 +15,8 @@ ghost use Rattle.vx_consumer.specs.Flows.{fresh};
 ghost use Rattle.vx_call.specs.Mailboxes.{is_accepted};
 ghost use Rattle.vx_call.specs.Given.{given_by_task};
 ghost use Rattle.vx_call.specs.Items.{is_for};
-ghost use Rattle.vx_bus_store.specs.Stores.{is_of_kind, has_task, without_first, recipient_of, asker_in, names, handler_in, is_handler_at, next_arrival, IsEmptyBus};
+ghost use Rattle.vx_call.specs.Owners.{context_owning};
+ghost use Rattle.vx_bus_store.specs.Stores.{is_of_kind, is_kept_by_bus, has_task, without_first, recipient_of, asker_in, names, handler_in, is_handler_at, next_arrival, IsEmptyBus};
 
 use std::alloc::Global;
 use std::marker::Model;
@@ -26,11 +28,12 @@ use vx_request::{GivenOut, OpenRequest, Requests, is_lost};
 use vx_ring::Rings;
 use vx_rules::{Codecs, Rules};
 
-/// A consumer that a message is for, its context, and what becomes of the message there.
+/// A consumer that a message is for, the context whose handler gets it, none where a connection's does, and what becomes of
+/// the message there.
 #[derive(Clone, Copy)]
 pub struct Recipient {
     pub consumer: ConsumerId,
-    pub context: ContextId,
+    pub home: Option<ContextId>,
     pub arrive: Arrive,
 }
 
@@ -208,7 +211,8 @@ impl Bus {
 
     /// Takes a task that waits, for a handler of the context, which is given the message that it may reply to.
     pub fn take(&mut self, kind: ItemKind, context: ContextId) -> Task
-        requires { has_task kind self.old.tasks ≡ true }
+        requires kept { is_kept_by_bus kind ≡ true }
+        requires there { has_task kind self.old.tasks ≡ true }
         ensures task { find (is_of_kind kind) self.old.tasks ≡ Some result }
         ensures taken { self.new ≡ record self.old { tasks = without_first (is_of_kind kind) self.old.tasks; given = self.new.given; room = self.new.room } }
         ensures given { (id : MessageId) → given_at id self.new.given ≡ option_or (given_at id self.old.given) (find (λ (g : Given). same_message id g.id) (given_by_task (Some context) result)) }
@@ -281,8 +285,8 @@ impl Bus {
         ensures room { self.old.requests.room ≤ self.new.requests.room }
     {
         match self.requests.settle(id, at) {
-            Some(Owner::Context(context)) => Some(context),
-            _ => None,
+            Some(asker) => home_of(asker),
+            None => None,
         }
     }
 
@@ -336,8 +340,18 @@ fn recipient_of(handler: &Handler) -> Recipient
 {
     Recipient {
         consumer: handler.consumer.id,
-        context: handler.consumer.context,
+        home: home_of(handler.consumer.owner),
         arrive: handler.flow.next_arrival(),
+    }
+}
+
+/// The context that owns, if it is no connection.
+pub fn home_of(owner: Owner) -> Option<ContextId>
+    ensures { result ≡ context_owning owner }
+{
+    match owner {
+        Owner::Context(context) => Some(context),
+        Owner::Pass(_) | Owner::Conn(_) => None,
     }
 }
 
@@ -381,7 +395,7 @@ pub fn is_for(id: ConsumerId, task: &Task) -> bool
             consumer,
             message: _,
         } => id == *consumer,
-        Task::Outcome { .. } => false,
+        _ => false,
     }
 }
 
@@ -394,35 +408,47 @@ fn leave_out_tasks(tasks: &mut Vec<Task>, id: ConsumerId)
     tasks.retain(|task| !is_for(id, task));
 }
 
-// Whether the task is of this kind.
-fn is_of_kind(kind: ItemKind, task: &Task) -> bool
-    ensures { result ≡ is_of_kind kind task.now }
+// Whether the task is this message for the consumer.
+fn is_delivery(id: ConsumerId, received: MessageId, task: &Task) -> bool
+    ensures { result ≡ is_of_kind (kinds.Deliver id received) task.now }
 {
-    match (kind, task) {
-        (ItemKind::Deliver(other, id), Task::Deliver { consumer, message }) => {
-            other == *consumer && id == message.id
-        }
-        (
-            ItemKind::Outcome(id),
-            Task::Outcome {
-                request,
-                outcome: _,
-            },
-        ) => id == *request,
+    match task {
+        Task::Deliver { consumer, message } => id == *consumer && received == message.id,
+        _ => false,
+    }
+}
+
+// Whether the task is the outcome of the request.
+fn is_outcome(id: MessageId, task: &Task) -> bool
+    ensures { result ≡ is_of_kind (kinds.Outcome id) task.now }
+{
+    match task {
+        Task::Outcome {
+            request,
+            outcome: _,
+        } => id == *request,
         _ => false,
     }
 }
 
 // The place of the first task of this kind.
 fn place_of(tasks: &Vec<Task>, kind: ItemKind) -> Option<usize>
+    requires { is_kept_by_bus kind ≡ true }
     ensures { result ≡ position (is_of_kind kind) tasks.now.items }
 {
-    tasks.iter().position(|task| is_of_kind(kind, task))
+    match kind {
+        ItemKind::Deliver(consumer, id) => tasks
+            .iter()
+            .position(|task| is_delivery(consumer, id, task)),
+        ItemKind::Outcome(id) => tasks.iter().position(|task| is_outcome(id, task)),
+        _ => unreachable!(),
+    }
 }
 
 // Takes the first task of this kind.
 fn take_task(tasks: &mut Vec<Task>, kind: ItemKind) -> Task
-    requires { has_task kind tasks.old.items ≡ true }
+    requires kept { is_kept_by_bus kind ≡ true }
+    requires there { has_task kind tasks.old.items ≡ true }
     ensures task { find (is_of_kind kind) tasks.old.items ≡ Some result }
     ensures taken { tasks.new.items ≡ without_first (is_of_kind kind) tasks.old.items }
     ensures len { vec_len tasks.new + 1 ≡ vec_len tasks.old }
@@ -459,6 +485,6 @@ fn given_by(task: &Task, context: ContextId) -> Option<Given>
             receiver: Some(context),
             request: true,
         }),
-        Task::Outcome { .. } => None,
+        _ => None,
     }
 }

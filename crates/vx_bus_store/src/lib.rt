@@ -6,4 +6,4 @@ mod bus;
 mod flows;
 mod interceptors;
 
-pub use bus::{Bus, Handler, Recipient, is_for};
+pub use bus::{Bus, Handler, Recipient, home_of, is_for};

@@ -7,7 +7,10 @@ mod reply;
 mod unmade;
 
 pub use call::{Call, End};
-pub use history::{Consumer, Entry, Traced};
+pub use history::{Consumer, Deed, Entry, Mark, Sending, Traced};
 pub use reply::{Refusal, Reply, Task, To};
 pub use unmade::Unmade;
-pub use vx_message::{CodecForm, Condition, Lane, Options, Owner, Side, Verdict};
+pub use vx_message::{
+    CodecForm, Compose, Condition, DoneResult, FrameMessage, InFrame, JobResult, Lane, Options,
+    OutFrame, Owner, Permits, Side, Verdict,
+};

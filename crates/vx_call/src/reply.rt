@@ -1,5 +1,8 @@
-use vx_data::{CodecId, ConsumerId, ContextId, EntryNo, List, MessageId, PassNo, RuleId};
-use vx_message::{Message, Outcome, Owner};
+use vx_data::{
+    CodecId, ConnId, ConsumerId, ContextId, DeploymentId, EntryNo, List, MessageId, PassNo, PoolId,
+    PromiseId, QueuedId, RuleId, ServerId, TimerId,
+};
+use vx_message::{DoneResult, JobResult, Message, OutFrame, Outcome, Owner};
 
 /// What a message reached.
 #[derive(Clone, Copy, Debug, PartialEq, Eq)]
@@ -18,6 +21,8 @@ pub enum To {
 /// What a handler is called for.
 #[derive(Drop)]
 pub enum Task {
+    /// A verticle starts.
+    Start(ContextId),
     Deliver {
         consumer: ConsumerId,
         message: Message,
@@ -27,6 +32,34 @@ pub enum Task {
         request: MessageId,
         outcome: Outcome,
     },
+    /// A timer's time has come.
+    Fire(TimerId),
+    /// Code that was handed to the context.
+    Run(QueuedId),
+    /// Blocking code.
+    Job(QueuedId),
+    /// Blocking code that the context handed over has ended.
+    JobDone {
+        queued: QueuedId,
+        result: JobResult,
+    },
+    /// The server got the connection that came in with this entry.
+    Connected(ServerId, EntryNo),
+    /// A promise that the context awaits has ended.
+    PromiseEnd {
+        awaited: QueuedId,
+        promise: PromiseId,
+        result: JobResult,
+    },
+    /// The starts of a deployment have ended, or it is gone since one of them failed.
+    DeployEnd {
+        deployment: DeploymentId,
+        result: DoneResult,
+    },
+    /// A deployment is gone.
+    UndeployEnd(DeploymentId),
+    /// A verticle stops.
+    Stop(ContextId),
 }
 
 /// Why a call changed nothing. Each but the last is an entry of the history all the same.
@@ -34,6 +67,8 @@ pub enum Task {
 pub enum Refusal {
     /// The named context is not there.
     NoContext,
+    /// The context was closed by this entry.
+    ContextClosed(EntryNo),
     /// The consumer is not there, or has ended.
     NoConsumer,
     /// The thing belongs to another, who is named.
@@ -42,6 +77,8 @@ pub enum Refusal {
     NotHolding,
     /// The pass holds a task, which the Take of this entry gave it.
     Holding(EntryNo),
+    /// This pass holds a task of the event loop.
+    LaneHeld(PassNo),
     /// The lane is not there.
     NoLane,
     /// The address has no bytes, or more than 1,024.
@@ -57,16 +94,43 @@ pub enum Refusal {
     NotRequest,
     /// The request has ended at this entry.
     Late(EntryNo),
-    /// The limit of a consumer is not from 1 to 100,000, or no message is fetched.
+    /// The deployment is not there, or is gone; or the context whose handler makes the call is no verticle's.
+    NoDeployment,
+    /// The deployment was asked to end at this entry.
+    Stopping(EntryNo),
+    /// The limit of a consumer is not from 1 to 100,000, no message is fetched, the loops are not 1 to 16, the instances
+    /// not 1 to 64, a pool's size not 1 to 20, eight pools are there, a composite has not 1 to 64 parts, or a port is 0.
     BadCount,
-    /// The timeout is not from 1 to 1,000,000,000,000 ms.
+    /// The delay or timeout is not from 1 to 1,000,000,000,000 ms.
     BadDelay,
+    /// The timer is not there, or will fire no more.
+    NoTimer,
     /// No codec has the name.
     NoCodec,
     /// A codec has the name, which this entry added.
     CodecTaken(EntryNo),
     /// The rule is not there.
     NoRule,
+    /// The connection is not there.
+    NoConnection,
+    /// The connection was closed at this entry.
+    ConnClosed(EntryNo),
+    /// The promise is not there.
+    NoPromise,
+    /// The promise was settled by this entry.
+    Settled(EntryNo),
+    /// The server is not there, or its context is closed.
+    NoServer,
+    /// This is the first deployment that is not gone.
+    StillDeployed(DeploymentId),
+    /// The hub was closed by this entry.
+    HostClosed(EntryNo),
+    /// The start, or the stop, is not to be ended; or the promise is a composite, which its parts settle.
+    NotPending,
+    /// A pool has the name, which this entry added.
+    PoolTaken(EntryNo),
+    /// No pool has the name.
+    NoPool,
     /// The history has 2^48 entries. This refusal adds none.
     Spent,
 }
@@ -75,6 +139,8 @@ pub enum Refusal {
 pub enum Reply {
     Pass(PassNo),
     Context(ContextId),
+    Pool(PoolId),
+    Deployment(DeploymentId),
     Consumer(ConsumerId),
     /// What the message reached.
     Sent(To),
@@ -82,13 +148,26 @@ pub enum Reply {
     Published(List<ConsumerId>),
     /// What the request reached.
     Asked(To),
+    Timer(TimerId),
+    Queued(QueuedId),
+    Promise(PromiseId),
     Codec(CodecId),
     Rule(RuleId),
+    Connection(ConnId),
+    /// A frame that goes out.
+    Frame(OutFrame),
+    /// No frame waits on the connection.
+    NoFrame,
+    Server(ServerId),
+    /// The server whose turn it is.
+    Accepted(ServerId),
     Task(Task),
     /// The lane has no next task.
     Idle,
+    /// The hub is closed.
+    Stopped,
     Done,
-    /// How many requests' time was up.
+    /// How many requests' time was up, and how many timers fired.
     Fired(u64),
     Refused(Refusal),
 }
@@ -103,14 +182,25 @@ impl Drop for Reply {
         match self {
             Reply::Pass(_) => {}
             Reply::Context(_) => {}
+            Reply::Pool(_) => {}
+            Reply::Deployment(_) => {}
             Reply::Consumer(_) => {}
             Reply::Sent(_) => {}
             Reply::Published(_) => {}
             Reply::Asked(_) => {}
+            Reply::Timer(_) => {}
+            Reply::Queued(_) => {}
+            Reply::Promise(_) => {}
             Reply::Codec(_) => {}
             Reply::Rule(_) => {}
+            Reply::Connection(_) => {}
+            Reply::Frame(_) => {}
+            Reply::NoFrame => {}
+            Reply::Server(_) => {}
+            Reply::Accepted(_) => {}
             Reply::Task(_) => {}
             Reply::Idle => {}
+            Reply::Stopped => {}
             Reply::Done => {}
             Reply::Fired(_) => {}
             Reply::Refused(_) => {}

@@ -1,10 +1,12 @@
-//! Contexts, the tasks that wait for them, and those that passes hold.
+//! Contexts and worker pools, the tasks that wait for them, and those that passes hold.
 #![tactic(auto)]
 
 mod contexts;
+mod lanes;
 mod refusals;
 
 pub use contexts::Contexts;
+pub use lanes::same_lane;
 pub use refusals::{
-    already_holding, no_context, no_lane, not_holding, not_your_context, not_your_lane,
+    already_holding, lane_held, no_context, no_lane, not_holding, not_your_context, not_your_lane,
 };

@@ -4,4 +4,4 @@
 mod headers;
 mod write;
 
-pub use write::write_frame;
+pub use write::{write_frame, write_json};

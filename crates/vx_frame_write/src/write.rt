@@ -22,8 +22,31 @@ pub fn write_frame(alloc: Global, frame: &OutFrame, into: &mut Vec<u8>) -> Resul
     ensures unchanged { OnErr result (into.new.items ≡ into.old.items) }
 {
     let mut json = Vec::new(alloc);
-    append_json(alloc, frame, &mut json)?;
+    write_json(alloc, frame, &mut json)?;
     append_framed(&json, into)
+}
+
+/// Appends the JSON of the frame, with no length before it. `NoMemory` may leave a front of it.
+pub fn write_json(alloc: Global, frame: &OutFrame, into: &mut Vec<u8>) -> Result<(), NoMemory>
+    ensures { OnOk result (into.new.items ≡ into.old.items ++ frame_json frame.now) }
+{
+    match frame {
+        OutFrame::Pong => append(b"{\"type\":\"pong\"}", into),
+        OutFrame::Err(text) => append_error(text, into),
+        OutFrame::Message {
+            message,
+            reply,
+            publish,
+        } => {
+            append_message(alloc, message, *reply, into)?;
+            append_send(*publish, into)
+        }
+        OutFrame::Reply { message, again } => {
+            append_message(alloc, message, *again, into)?;
+            append(b",\"type\":\"message\"}", into)
+        }
+        OutFrame::Failed { address, failure } => append_failure(address, failure, into),
+    }
 }
 
 /// Appends the length of the JSON, and the JSON. `NoMemory` leaves the list as it was.
@@ -49,28 +72,6 @@ fn prefix_of(len: u32) -> [u8; 4]
     ensures { result ≡ prefix len }
 {
     len.to_be_bytes()
-}
-
-fn append_json(alloc: Global, frame: &OutFrame, into: &mut Vec<u8>) -> Result<(), NoMemory>
-    ensures { OnOk result (into.new.items ≡ into.old.items ++ frame_json frame.now) }
-{
-    match frame {
-        OutFrame::Pong => append(b"{\"type\":\"pong\"}", into),
-        OutFrame::Err(text) => append_error(text, into),
-        OutFrame::Message {
-            message,
-            reply,
-            publish,
-        } => {
-            append_message(alloc, message, *reply, into)?;
-            append_send(*publish, into)
-        }
-        OutFrame::Reply { message, again } => {
-            append_message(alloc, message, *again, into)?;
-            append(b",\"type\":\"message\"}", into)
-        }
-        OutFrame::Failed { address, failure } => append_failure(address, failure, into),
-    }
 }
 
 fn append_error(text: &Text, into: &mut Vec<u8>) -> Result<(), NoMemory>

@@ -1,6 +1,7 @@
 -- From the hub's answer in a turn to what the pass knows then.
 use Rattle.std.proofs.Common.{◌≡◌, ℕ, ◌<◌, ◌≤◌, ◌^◌, Bool, true, false, cond, rules, tests, List, [], ◌∷◌, ◌++◌, length, All, refl, sym, ap, ◌∙◌, subst}
 use Rattle.std.specs.List.{enumerate_from}
+use Rattle.std.specs.Option.{option_or}
 use Rattle.std.proofs.lemmas.List.{append-nil}
 use Rattle.std.proofs.lemmas.List.Elements.{All-nil, All-contains}
 use Rattle.vx_data.specs.declared.ids.PassNo.{PassNo}
@@ -11,7 +12,8 @@ use Rattle.vx_call.specs.declared.reply.Reply.TheVariants as replies
 use Rattle.vx_call.specs.declared.reply.Reply.{Reply}
 use Rattle.vx_call.specs.declared.history.Traced.{Traced}
 use Rattle.vx_call.specs.History.{plain_entry}
-use Rattle.vx_call.specs.Refusals.{is_spent, unless_refused, refused_if}
+use Rattle.vx_call.specs.Effects.{marked}
+use Rattle.vx_call.specs.Refusals.{is_spent, unless_refused, refused_if, shut}
 use Rattle.vx_call.specs.Passes.{passes}
 use Rattle.vx_call.specs.Machine.{row, answer, extended, IsLegal}
 use Rattle.vx_call.specs.Unchanged.{IsUnchanged}
@@ -24,13 +26,13 @@ use Rattle.vx_turn.proofs.Entries.{entries_more, is_in-itself}
 use Rattle.vx_hub.specs.Passes.{pass_of, opens}
 use Rattle.vx_hub.specs.Stores.{HubStore}
 use Rattle.vx_hub.specs.Stands.{StandsFor, Answered, Meets}
-use Rattle.vx_hub.proofs.Calls.{is_unspent, row_answers}
+use Rattle.vx_hub.proofs.Calls.{is_unspent}
 use Rattle.vx_host.specs.Calls.{pass_no, entry_of, machine_entry, Called}
 
 -- the history that a call leaves
 extended_by : (history : List Traced) (pass : PassNo) (call : Call) (reply : Reply) → extended history pass call reply ≡ history ++ entry_of history pass call reply
 extended_by history pass call reply =
-    let entry = plain_entry pass call reply ∷ [] in
+    let entry = plain_entry pass call reply (marked history pass call reply) ∷ [] in
     elim (is_spent history) as (λ b. cond b history (history ++ entry) ≡ history ++ cond b [] entry) [ true ↦ sym (append-nil history) | false ↦ refl ]
 
 -- the pass that has the turn is there, so the hub answers it as the machine does
@@ -55,7 +57,8 @@ stands_after new history pass call reply added is answered = subst (StandsFor ne
 pub entry_own : (history : List Traced) (pass : PassNo) (call : Call) (added : List Traced) (n : ℕ) → added ≡ machine_entry history pass call → pass.0 ≡ n → All (λ e. pass_of e ≡ n) added
 entry_own history pass call added n is number =
     let P : Traced → Type 0 = λ e. pass_of e ≡ n in
-    let entry = plain_entry pass call (answer history pass call) in
+    let reply = answer history pass call in
+    let entry = plain_entry pass call reply (marked history pass call reply) in
     let own : All P (machine_entry history pass call) = elim (is_spent history) as (λ b. All P (cond b [] (entry ∷ []))) [ true ↦ All-nil P | false ↦ All-one P entry number ] in
     subst (All P) (sym is) own
 
@@ -145,9 +148,12 @@ split_opened turn after history number same is left short counted seen legal =
     let room : length turn.seen < 2 ^ 48 = subst P same short in
     let count : number ≡ passes turn.seen = counted ∙ ap passes same in
     let reply = replies.Pass (record { 0 = number }) in
-    let entry = plain_entry (pass_no turn) calls.NewPass reply in
-    split_in turn after reply is left (row_answers turn.seen (pass_no turn) calls.NewPass reply room (ap (λ n. replies.Pass (record { 0 = n })) count))
-    (seen ∙ (ap (λ h. h ++ opens turn.number (passes h) ∷ []) same ∙ (ap (λ n. turn.seen ++ opens turn.number n ∷ []) (sym count) ∙ ap (λ b. turn.seen ++ cond b [] (entry ∷ [])) (sym (is_unspent turn.seen room))))) legal
+    let pass = pass_no turn in
+    let entry = plain_entry pass calls.NewPass reply (marked turn.seen pass calls.NewPass reply) in
+    let unspent = sym (is_unspent turn.seen room) in
+    split_in turn after reply is left
+    (ap (λ n. replies.Pass (record { 0 = n })) count ∙ ap (λ b. unless_refused (option_or (refused_if b refusals.Spent) (shut turn.seen calls.NewPass)) (row turn.seen pass calls.NewPass)) unspent)
+    (seen ∙ (ap (λ h. h ++ opens turn.number (passes h) ∷ []) same ∙ (ap (λ n. turn.seen ++ opens turn.number n ∷ []) (sym count) ∙ ap (λ b. turn.seen ++ cond b [] (entry ∷ [])) unspent))) legal
 
 has_spent : (history : List Traced) → 2 ^ 48 ≤ length history → is_spent history ≡ true
 has_spent history full = search (rules, tests)
@@ -158,6 +164,7 @@ split_spent turn after history same is left full seen legal =
     let P : List Traced → Type 0 = λ h. 2 ^ 48 ≤ length h in
     let spent = sym (has_spent turn.seen (subst P same full)) in
     let pass = pass_no turn in
-    let entry = plain_entry pass calls.NewPass (replies.Refused refusals.Spent) in
-    split_in turn after (replies.Refused refusals.Spent) is left (ap (λ b. unless_refused (refused_if b refusals.Spent) (row turn.seen pass calls.NewPass)) spent)
+    let reply = replies.Refused refusals.Spent in
+    let entry = plain_entry pass calls.NewPass reply (marked turn.seen pass calls.NewPass reply) in
+    split_in turn after reply is left (ap (λ b. unless_refused (option_or (refused_if b refusals.Spent) (shut turn.seen calls.NewPass)) (row turn.seen pass calls.NewPass)) spent)
     (seen ∙ (sym (append-nil turn.seen) ∙ ap (λ b. turn.seen ++ cond b [] (entry ∷ [])) spent)) legal

@@ -6,6 +6,7 @@ use Rattle.vx_call.specs.declared.call.Call.{Call}
 use Rattle.vx_call.specs.declared.reply.Reply.{Reply}
 use Rattle.vx_call.specs.declared.history.Traced.{Traced}
 use Rattle.vx_call.specs.History.{is_accepted, plain_entry}
+use Rattle.vx_call.specs.Effects.{marked}
 use Rattle.vx_call.specs.Refusals.{is_spent}
 use Rattle.vx_call.specs.Passes.{passes}
 use Rattle.vx_call.specs.Machine.{answer, IsLegal}
@@ -20,7 +21,7 @@ pass_no pass = record { 0 = pass.number }
 
 -- the entry of a call and its reply, where the history is not spent
 abbrev pub entry_of : List Traced → PassNo → Call → Reply → List Traced
-entry_of history pass call reply = if is_spent history then [] else plain_entry pass call reply ∷ []
+entry_of history pass call reply = if is_spent history then [] else plain_entry pass call reply (marked history pass call reply) ∷ []
 
 -- the entry that the machine makes of a call
 abbrev pub machine_entry : List Traced → PassNo → Call → List Traced

@@ -3,6 +3,7 @@ ghost use Rattle.std.specs.Prelude.{◌≡◌, ◌<◌, true, [], length, Contai
 ghost use Rattle.vx_call.specs.declared.call.Call.TheVariants as calls;
 ghost use Rattle.vx_call.specs.declared.reply.Refusal.TheVariants as refusals;
 ghost use Rattle.vx_call.specs.declared.reply.Reply.TheVariants as replies;
+ghost use Rattle.vx_call.specs.Built.{is_built};
 ghost use Rattle.vx_call.specs.Plain.{is_plain, takes_no_memory};
 ghost use Rattle.vx_call.specs.Requests.{unsettled};
 ghost use Rattle.vx_call.specs.Machine.{IsLegal};
@@ -58,10 +59,12 @@ impl Host {
         }
     }
 
-    /// Waits for its turn and makes a plain call: neither a Take nor a Finish.
+    /// Waits for its turn and makes a plain call: neither a Take nor a Finish. It is one that has a body: [`Call::is_built`]
+    /// says so.
     pub fn apply<R: Wait>(&self, rt: &R, pass: Pass, call: Call) -> Applied
         requires place { place_of pass ≡ place self.now.shared }
         requires plain { IsTrue (is_plain call) }
+        requires built { is_built call ≡ true }
         ensures place { place_of result.pass ≡ place_of pass }
         ensures called { IfOk result.result (λ reply. Called (caller pass) call reply (caller result.pass)) }
         ensures without_memory { OnErr result.result (AddedNothing (caller pass) (caller result.pass)) }
@@ -73,10 +76,11 @@ impl Host {
         apply_in(turn, number, call)
     }
 
-    /// Makes a plain call if no other pass has the turn or waits for it. It doesn't wait.
+    /// Makes a plain call that has a body if no other pass has the turn or waits for it. It doesn't wait.
     pub fn try_apply(&self, pass: Pass, call: Call) -> Result<Applied, BusyCall>
         requires place { place_of pass ≡ place self.now.shared }
         requires plain { IsTrue (is_plain call) }
+        requires built { is_built call ≡ true }
         ensures place { IfOk result (λ applied. place_of applied.pass ≡ place_of pass) }
         ensures called { IfOk result (λ applied. IfOk applied.result (λ reply. Called (caller pass) call reply (caller applied.pass))) }
         ensures without_memory { IfOk result (λ applied. OnErr applied.result (AddedNothing (caller pass) (caller applied.pass))) }

@@ -3,6 +3,7 @@ ghost use Rattle.std.specs.Prelude.{◌≡◌, ◌<◌, true, List, ◌++◌, le
 ghost use Rattle.std.specs.List.{enumerate_from};
 ghost use Rattle.vx_call.specs.declared.call.Call.TheVariants as calls;
 ghost use Rattle.vx_call.specs.declared.history.Traced.{Traced};
+ghost use Rattle.vx_call.specs.Built.{is_built};
 ghost use Rattle.vx_call.specs.Plain.{is_plain, takes_no_memory};
 ghost use Rattle.vx_call.specs.Passes.{passes};
 ghost use Rattle.vx_call.specs.Machine.{answer};
@@ -45,6 +46,7 @@ pub(crate) fn apply_in(mut turn: Turn<'_, Hub>, pass: PassNo, call: Call) -> App
     ghost added: { List Traced }
     requires added { added ≡ machine_entry (seen_in turn) pass call }
     requires plain { IsTrue (is_plain call) }
+    requires built { is_built call ≡ true }
     requires pass { pass.0 ≡ number_in turn }
     requires stands { StandsFor (machine_in turn) (seen_in turn) }
     requires known { All (λ n. n < passes (seen_in turn)) (caller_in turn).numbers }

@@ -1,4 +1,5 @@
 ghost use Rattle.std.specs.Prelude.{◌≡◌, true, IfSome};
+ghost use Rattle.vx_call.specs.Built.{is_built};
 ghost use Rattle.vx_call.specs.Plain.{is_plain};
 ghost use Rattle.vx_turn.specs.Passes.{place, place_of};
 
@@ -18,7 +19,8 @@ const CONTEXT: ContextId = ContextId {
 const SENDS: i64 = 100;
 
 fn register() -> Call
-    ensures { is_plain result ≡ true }
+    ensures plain { is_plain result ≡ true }
+    ensures built { is_built result ≡ true }
 {
     Call::Register {
         context: CONTEXT,
@@ -28,7 +30,8 @@ fn register() -> Call
 }
 
 fn send(alloc: Global, number: i64) -> Call
-    ensures { is_plain result ≡ true }
+    ensures plain { is_plain result ≡ true }
+    ensures built { is_built result ≡ true }
 {
     Call::Send {
         address: Text::constant("a"),
@@ -48,6 +51,7 @@ fn is_made(answer: Result<Reply, Unmade>) -> bool {
 fn make<R: Wait>(rt: &R, host: &Host, pass: Pass, call: Call) -> (Pass, bool)
     requires place { place_of pass ≡ place host.now.shared }
     requires plain { is_plain call ≡ true }
+    requires built { is_built call ≡ true }
     ensures { place_of result.0 ≡ place_of pass }
 {
     let applied = host.apply(rt, pass, call);
@@ -202,6 +206,7 @@ fn two_threads_of_100_sends(rt: HostRuntime) -> Result<(), Fail> {
 fn is_made_at_once(host: &Host, pass: Pass, call: Call) -> bool
     requires place { place_of pass ≡ place host.now.shared }
     requires plain { is_plain call ≡ true }
+    requires built { is_built call ≡ true }
 {
     match host.try_apply(pass, call) {
         Ok(applied) => is_made(applied.result),

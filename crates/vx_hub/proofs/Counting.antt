@@ -11,17 +11,17 @@ use Rattle.vx_call.specs.declared.call.End.{End}
 use Rattle.vx_call.specs.declared.reply.Refusal.{Refusal}
 use Rattle.vx_call.specs.declared.reply.Reply.{Reply}
 use Rattle.vx_call.specs.declared.history.Traced.{Traced}
-use Rattle.vx_call.specs.History.{is_accepted, plain_entry}
+use Rattle.vx_call.specs.History.{is_accepted, plain_entry, no_mark}
 use Rattle.vx_call.specs.Summary.{makes_message, delivers}
 use Rattle.vx_hub.specs.Counts.{Counted, counted, one_more, with_entry}
 use Rattle.vx_hub.specs.Stores.{HubStore}
 use Rattle.vx_hub.specs.Stands.{HubStands, finished}
 
-pub counted_more : (history : List Traced) (pass : PassNo) (call : Call) (reply : Reply) → counted (history ++ plain_entry pass call reply ∷ []) ≡ with_entry (counted history) call reply
+pub counted_more : (history : List Traced) (pass : PassNo) (call : Call) (reply : Reply) → counted (history ++ plain_entry pass call reply no_mark ∷ []) ≡ with_entry (counted history) call reply
 counted_more history pass call reply =
-    let entry = plain_entry pass call reply in
+    let entry = plain_entry pass call reply no_mark in
     let entries = length_push history entry in
-    let messages = sum_by_push (λ (new : Traced). cond (is_accepted new.entry.reply && makes_message new.entry.call) 1 0) history entry in
+    let messages = sum_by_push (λ (new : Traced). cond (is_accepted new.entry.reply && makes_message new.entry.call new.mark.deed) 1 0) history entry in
     let deliveries = sum_by_push (λ (new : Traced). cond (delivers new.entry.reply) 1 0) history entry in
     λ i. record { entries = entries i; messages = messages i; deliveries = deliveries i }
 

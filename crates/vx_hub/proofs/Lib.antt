@@ -1,3 +1,7 @@
+pub mod Finishing
+pub mod OfBus
+pub mod Named
+pub mod States
 pub mod Views
 pub mod RowNewPass
 pub mod RowNewContext

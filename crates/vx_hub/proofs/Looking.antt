@@ -4,6 +4,7 @@ use Rattle.std.specs.Prelude.{position, find, is_some}
 use Rattle.vx_message.specs.declared.Lane.{Lane}
 use Rattle.vx_timer.specs.Order.{first_due}
 use Rattle.vx_call.specs.declared.history.Traced.{Traced}
+use Rattle.vx_call.specs.Built.{AreBuilt}
 use Rattle.vx_call.specs.Requests.{Open, put_by_due, by_due}
 use Rattle.vx_call.specs.Items.{waiting}
 use Rattle.vx_call.specs.Next.{next}
@@ -11,19 +12,22 @@ use Rattle.vx_context.specs.Stores.{ContextStore, is_ready}
 use Rattle.vx_context.specs.Stands.{ContextsStand}
 use Rattle.vx_bus_store.specs.Stores.{timer_of}
 use Rattle.vx_hub.specs.Looks.{or_less, least_due}
+use Rattle.vx_hub.specs.Named.{NameContexts}
 use Rattle.vx_bus_store.proofs.Positions.{find_from_position, find_from_no_position}
-use Rattle.vx_hub.proofs.RowTake.{place_there}
+use Rattle.vx_hub.proofs.RowTake.{may_take, place_there}
 
 found_at : {X : Type 0} (p : X → Bool) (xs : List X) (i : ℕ) → position p xs ≡ Some i → is_some (find p xs) ≡ true
 found_at p [] i h = cc
 found_at p (x ∷ xs) i h = ap is_some (find_from_position p (x ∷ xs) i x h)
 
 -- the store finds a next task where the history has one
-pub ready : (store : ContextStore) (history : List Traced) (lane : Lane) (i : ℕ) → ContextsStand store history → position (is_ready store.held lane) store.waiting ≡ Some i → is_some (next history lane) ≡ true
-ready store history lane i stands at = found_at _ (waiting history) i (sym (place_there store history lane stands) ∙ at)
+pub ready : (store : ContextStore) (history : List Traced) (lane : Lane) (i : ℕ) → ContextsStand store history → AreBuilt history → NameContexts history →
+    position (is_ready store.pools store.held lane) store.waiting ≡ Some i → is_some (next history lane) ≡ true
+ready store history lane i stands built named at = found_at (may_take history lane) (waiting history) i (sym (place_there store history lane stands built named) ∙ at)
 
-pub idle : (store : ContextStore) (history : List Traced) (lane : Lane) → ContextsStand store history → position (is_ready store.held lane) store.waiting ≡ None → is_some (next history lane) ≡ false
-idle store history lane stands none = ap is_some (find_from_no_position _ (waiting history) (sym (place_there store history lane stands) ∙ none))
+pub idle : (store : ContextStore) (history : List Traced) (lane : Lane) → ContextsStand store history → AreBuilt history → NameContexts history →
+    position (is_ready store.pools store.held lane) store.waiting ≡ None → is_some (next history lane) ≡ false
+idle store history lane stands built named none = ap is_some (find_from_no_position (may_take history lane) (waiting history) (sym (place_there store history lane stands built named) ∙ none))
 
 -- ## The first to be due
 

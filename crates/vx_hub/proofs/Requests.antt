@@ -1,16 +1,23 @@
 -- Lists of open requests, of which the first so many have ended.
 use Rattle.std.proofs.Common.{◌≡◌, ℕ, ◌+◌, ◌<◌, ◌≤◌, zero, suc, List, [], ◌∷◌, ◌++◌, length, take, drop, refl, ap, ◌∙◌, subst, arith}
 use Rattle.std.specs.Prelude.{Bool, true, false, not, cond, ◌||◌, nat_le, map, filter, find, All, Option, None, Some}
-use Rattle.std.specs.List.{list_any}
+use Rattle.std.specs.List.{list_any, cons_option}
 use Rattle.std.specs.Option.{option_map, option_or}
 use Rattle.std.proofs.lemmas.Bool.{eq-eqb}
 use Rattle.std.proofs.lemmas.List.Folds.{list_any-append}
 use Rattle.std.proofs.lemmas.List.Elements.{All-nil, All-cons, All-head, All-tail}
+use Rattle.vx_data.specs.declared.ids.ContextId.{ContextId}
 use Rattle.vx_call.specs.Requests.{Open, put_by_due, by_due}
-use Rattle.vx_call.specs.Settled.{Settled}
+use Rattle.vx_call.specs.declared.history.Traced.{Traced}
+use Rattle.vx_call.specs.Askers.{context_asking}
+use Rattle.vx_call.specs.Askers as askers
+use Rattle.vx_call.specs.Homes.{Heard, heard_by, heard}
+use Rattle.vx_call.specs.Settled.{timeout, settlement, settlements}
 use Rattle.vx_call.specs.Items.{outcome_item, outcome_items}
+use Rattle.vx_call.proofs.Built.{IsAskedByContext}
 use Rattle.vx_call.proofs.Each.{Each, Each-both, Each-filter}
 use Rattle.vx_call.proofs.Apart.{Apart}
+use Rattle.vx_call.proofs.Items.{heard_timeout}
 use Rattle.vx_call.proofs.Opened.{same_open, same_open-swap}
 use Rattle.vx_hub.specs.Advancing.{is_among}
 
@@ -208,8 +215,29 @@ any-by_due p (request ∷ others) = any-put_by_due p request (by_due others) ∙
 
 -- ## Outcomes
 
-pub outcome_items-push : (place : ℕ) (settled : List Settled) (last : Settled) → outcome_items place (settled ++ last ∷ []) ≡ outcome_items place settled ++ outcome_item (place + length settled) last ∷ []
+cons-append : {A : Type 0} (o : Option A) (xs ys : List A) → cons_option o (xs ++ ys) ≡ cons_option o xs ++ ys
+cons-append None xs ys = refl
+cons-append (Some x) xs ys = refl
+
+abbrev heard_as : List Traced → Open → Option ContextId → Option Heard
+heard_as history request asks = option_map (λ (context : ContextId). heard_timeout history request context) asks
+
+-- a request whose time is up, and the context that hears of it
+pub heard-push : (history : List Traced) (requests : List Open) (last : Open) (context : ContextId) → last.asker ≡ askers.context context →
+    heard (settlements history timeout (requests ++ last ∷ [])) ≡ heard (settlements history timeout requests) ++ heard_timeout history last context ∷ []
+heard-push history [] last context asks = ap (λ asker. cons_option (heard_as history last (context_asking asker)) []) asks
+heard-push history (request ∷ others) last context asks =
+    let here = heard_by (settlement history timeout request) in
+    ap (cons_option here) (heard-push history others last context asks) ∙ cons-append here (heard (settlements history timeout others)) (heard_timeout history last context ∷ [])
+
+-- contexts hear of as many as they asked
+pub length-heard : (history : List Traced) (requests : List Open) → Each IsAskedByContext requests → length (heard (settlements history timeout requests)) ≡ length requests
+length-heard history [] asked = refl
+length-heard history (request ∷ others) asked =
+    ap (λ asker. length (cons_option (heard_as history request (context_asking asker)) (heard (settlements history timeout others)))) asked.0.1 ∙ ap suc (length-heard history others asked.1)
+
+pub outcome_items-push : (place : ℕ) (ended : List Heard) (last : Heard) → outcome_items place (ended ++ last ∷ []) ≡ outcome_items place ended ++ outcome_item (place + length ended) last ∷ []
 outcome_items-push place [] last = let same : place ≡ place + 0 = omega arith in ap (λ n. outcome_item n last ∷ []) same
-outcome_items-push place (s ∷ others) last =
+outcome_items-push place (one ∷ others) last =
     let same : place + 1 + length others ≡ place + suc (length others) = omega arith in
-    ap (λ ws. outcome_item place s ∷ ws) (outcome_items-push (place + 1) others last ∙ ap (λ n. outcome_items (place + 1) others ++ outcome_item n last ∷ []) same)
+    ap (λ ws. outcome_item place one ∷ ws) (outcome_items-push (place + 1) others last ∙ ap (λ n. outcome_items (place + 1) others ++ outcome_item n last ∷ []) same)

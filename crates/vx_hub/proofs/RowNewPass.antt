@@ -8,7 +8,7 @@ use Rattle.vx_call.specs.declared.call.Call.{Call}
 use Rattle.vx_call.specs.declared.call.Call.TheVariants as calls
 use Rattle.vx_call.specs.declared.reply.Reply.TheVariants as replies
 use Rattle.vx_call.specs.declared.history.Traced.{Traced}
-use Rattle.vx_call.specs.History.{made_by, ended_by, is_accepted, plain_entry, lasting}
+use Rattle.vx_call.specs.History.{made_by, ended_by, is_accepted, plain_entry, no_mark, lasting}
 use Rattle.vx_call.specs.Passes.{pass_kind, pass_made, passes}
 use Rattle.vx_call.proofs.Lasting.{lasting_same, lasting_more, lasting-length}
 
@@ -29,13 +29,13 @@ passes_bound history = let few = lasting-length pass_kind at_most_one history in
 
 -- one more pass
 pub more_passes : (history : List Traced) (pass new : PassNo) (old_count new_count : ℕ) → old_count ≡ passes history → length history < 2 ^ 48 → new_count ≡ min (old_count + 1) (2 ^ 64 - 1) →
-    new_count ≡ passes (history ++ plain_entry pass calls.NewPass (replies.Pass new) ∷ [])
+    new_count ≡ passes (history ++ plain_entry pass calls.NewPass (replies.Pass new) no_mark ∷ [])
 more_passes history pass new old_count new_count is_old small is_new =
     let bound = passes_bound history in
     let exact : min (passes history + 1) (2 ^ 64 - 1) ≡ passes history + 1 = omega (arith, bound, small) in
     is_new ∙ ap (λ n. min (n + 1) (2 ^ 64 - 1)) is_old ∙ exact
     ∙ ap (λ n. n + 1) (sym (length_push (lasting pass_kind history) (record { 0 = length history })))
-    ∙ sym (ap (λ ps. length ps + 1) (lasting_more pass_kind history (plain_entry pass calls.NewPass (replies.Pass new)) (never_gone history (plain_entry pass calls.NewPass (replies.Pass new)))))
+    ∙ sym (ap (λ ps. length ps + 1) (lasting_more pass_kind history (plain_entry pass calls.NewPass (replies.Pass new) no_mark) (never_gone history (plain_entry pass calls.NewPass (replies.Pass new) no_mark))))
 
 -- an entry that makes no pass
 pub passes_left : (history : List Traced) (new : Traced) → made_by pass_kind history new ≡ [] → passes (history ++ new ∷ []) ≡ passes history

@@ -7,6 +7,7 @@ use Rattle.vx_timer.specs.declared.timers.Timer.{Timer}
 use Rattle.vx_request.specs.Stores.{ended_at}
 use Rattle.vx_call.specs.declared.history.Traced.{Traced}
 use Rattle.vx_data.specs.Ids.{same_message}
+use Rattle.vx_call.specs.Homes.{heard}
 use Rattle.vx_call.specs.Names.{next_entry}
 use Rattle.vx_call.specs.Requests.{Open, unsettled, by_due}
 use Rattle.vx_call.specs.Settled.{timeout, settlements}
@@ -24,17 +25,17 @@ is_among requests request = list_any (λ (other : Open). same_message other.id r
 
 -- what their outcomes wait as
 abbrev pub timeouts : List Traced → ℕ → List Waiting
-timeouts history count = outcome_items 0 (settlements history timeout (ended_first history count))
+timeouts history count = outcome_items 0 (heard (settlements history timeout (ended_first history count)))
 
 -- their outcomes
 abbrev pub timed_out : List Traced → ℕ → List Task
-timed_out history count = outcome_tasks (settlements history timeout (ended_first history count))
+timed_out history count = outcome_tasks (heard (settlements history timeout (ended_first history count)))
 
 -- the first so many of the requests by due moment have ended, each of which was due
 pub record Advanced (old_contexts new_contexts : ContextStore) (new_timers : List Timer) (old_bus new_bus : BusStore) (history : List Traced) (moment : ℕ) (count : ℕ) : Type 0 where
   pub within : count ≤ length (by_due (unsettled history))
   pub due : All (λ (request : Open). request.due ≤ moment) (ended_first history count)
-  pub items : new_contexts ≡ record old_contexts { waiting = old_contexts.waiting ++ map item_of (timeouts history count); room = new_contexts.room }
+  pub items : new_contexts ≡ record old_contexts { waiting = old_contexts.waiting ++ map (item_of history) (timeouts history count); room = new_contexts.room }
   pub timers : new_timers ≡ map timer_of (drop count (by_due (unsettled history)))
   pub tasks : new_bus ≡ record old_bus { tasks = old_bus.tasks ++ timed_out history count; requests = new_bus.requests; room = new_bus.room }
   pub left : new_bus.requests.waiting ≡ map row_of (filter (λ request. not (is_among (ended_first history count) request)) (unsettled history))

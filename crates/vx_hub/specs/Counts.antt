@@ -2,6 +2,7 @@
 use Rattle.std.specs.Prelude.{ℕ, ◌+◌, Bool, ◌&&◌, if◌then◌else◌, List, length}
 use Rattle.vx_call.specs.declared.call.Call.{Call}
 use Rattle.vx_call.specs.declared.reply.Reply.{Reply}
+use Rattle.vx_call.specs.declared.history.Deed.TheVariants as deeds
 use Rattle.vx_call.specs.declared.history.Traced.{Traced}
 use Rattle.vx_call.specs.History.{is_accepted}
 use Rattle.vx_call.specs.Summary.{makes_message, delivers, messages_made, deliveries_taken}
@@ -19,6 +20,6 @@ counted history = record { entries = length history; messages = messages_made hi
 abbrev pub one_more : Counted → Bool → Bool → Counted
 one_more counts made delivered = record { entries = counts.entries + 1; messages = counts.messages + (if made then 1 else 0); deliveries = counts.deliveries + (if delivered then 1 else 0) }
 
--- with the entry of a call and its reply
+-- with the entry of a call, which is no frame, and its reply
 abbrev pub with_entry : Counted → Call → Reply → Counted
-with_entry counts call reply = one_more counts (is_accepted reply && makes_message call) (delivers reply)
+with_entry counts call reply = one_more counts (is_accepted reply && makes_message call deeds.Nothing) (delivers reply)

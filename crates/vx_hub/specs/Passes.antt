@@ -7,7 +7,7 @@ use Rattle.vx_data.specs.declared.ids.EntryNo.{EntryNo}
 use Rattle.vx_call.specs.declared.call.Call.TheVariants as calls
 use Rattle.vx_call.specs.declared.reply.Reply.TheVariants as replies
 use Rattle.vx_call.specs.declared.history.Traced.{Traced}
-use Rattle.vx_call.specs.History.{is_accepted, made_by, ended_by, lasting, plain_entry}
+use Rattle.vx_call.specs.History.{is_accepted, made_by, ended_by, lasting, plain_entry, no_mark}
 use Rattle.vx_call.specs.Passes.{pass_kind, passes}
 use Rattle.vx_call.proofs.Lasting.{lasting_more, lasting_none}
 
@@ -17,7 +17,7 @@ pass_of entry = entry.entry.pass.0
 
 -- the entry in which a pass makes one of this number
 abbrev pub opens : ℕ → ℕ → Traced
-opens pass number = plain_entry (record { 0 = pass }) calls.NewPass (replies.Pass (record { 0 = number }))
+opens pass number = plain_entry (record { 0 = pass }) calls.NewPass (replies.Pass (record { 0 = number })) no_mark
 
 pub opened_by : (pass number : ℕ) → pass_of (opens pass number) ≡ pass
 opened_by pass number = refl

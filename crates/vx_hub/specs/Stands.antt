@@ -7,23 +7,26 @@ use Rattle.vx_call.specs.declared.reply.Refusal.{Refusal}
 use Rattle.vx_call.specs.declared.reply.Reply.{Reply}
 use Rattle.vx_call.specs.declared.reply.Reply.TheVariants as replies
 use Rattle.vx_call.specs.declared.history.Traced.{Traced}
-use Rattle.vx_call.specs.History.{is_accepted, plain_entry}
+use Rattle.vx_call.specs.History.{is_accepted, plain_entry, no_mark}
 use Rattle.vx_call.specs.Passes.{passes}
-use Rattle.vx_call.specs.Requests.{now}
+use Rattle.vx_call.specs.Time.{now}
 use Rattle.vx_call.specs.Machine.{row, answer, extended, IsLegal}
 use Rattle.vx_call.specs.Unchanged.{IsUnchanged}
 use Rattle.vx_context.specs.Stores.{ContextStore}
 use Rattle.vx_bus_store.specs.Stores.{BusStore}
 use Rattle.vx_bus_store.specs.Stands.{StoresStand}
 use Rattle.vx_hub.specs.Counts.{counted}
+use Rattle.vx_hub.specs.Named.{NameContexts}
 use Rattle.vx_hub.specs.Stores.{HubStore}
 
 -- ## The hub
 
--- the number of passes, the moment and the stores are those of the history
+-- the number of passes, the moment and the stores are those of the history, whose consumers and requests name contexts
+-- that are there
 pub record PartsStand (pass_count : ℕ) (moment : ℕ) (context_store : ContextStore) (timer_list : List Timer) (bus_store : BusStore) (history : List Traced) : Type 0 where
   pub passes : pass_count ≡ passes history
   pub now : moment ≡ now history
+  pub named : NameContexts history
   pub stores : StoresStand context_store timer_list bus_store history
 
 -- what the hub has counted and its parts are those of the history
@@ -63,7 +66,7 @@ finished (Err refusal) = replies.Refused refusal
 -- the reply is that of the call's row, and the parts are those of the history with this entry
 pub record PartsFollow (pass_count : ℕ) (moment : ℕ) (contexts : ContextStore) (timers : List Timer) (bus : BusStore) (history : List Traced) (pass : PassNo) (call : Call) (reply : Reply) : Type 0 where
   pub answered : reply ≡ row history pass call
-  pub parts : PartsStand pass_count moment contexts timers bus (history ++ plain_entry pass call reply ∷ [])
+  pub parts : PartsStand pass_count moment contexts timers bus (history ++ plain_entry pass call reply no_mark ∷ [])
 
 -- the hub's parts are those of some history, legal or not
 abbrev pub IsOfHistory : HubStore → Type 0

@@ -1,5 +1,6 @@
 //! What is counted of the history, entry by entry.
 ghost use Rattle.std.specs.Prelude.{◌≡◌, ◌<◌, ◌^◌, ◌&&◌};
+ghost use Rattle.vx_call.specs.declared.history.Deed.TheVariants as deeds;
 ghost use Rattle.vx_call.specs.History.{is_accepted};
 ghost use Rattle.vx_call.specs.Summary as summary;
 ghost use Rattle.vx_hub.specs.Counts.{one_more};
@@ -66,9 +67,9 @@ impl Counts {
     }
 }
 
-/// Whether a call makes a message, where it is accepted.
+/// Whether a call that is no frame makes a message, where it is accepted.
 pub(crate) fn makes_message(call: &Call) -> bool
-    ensures { result ≡ summary.makes_message call.now }
+    ensures { result ≡ summary.makes_message call.now deeds.Nothing }
 {
     matches!(
         call,

@@ -1,5 +1,6 @@
 ghost use Rattle.std.specs.Prelude.{◌≡◌, ◌<◌, ◌≤◌, ◌^◌, List, [], true, IsTrue, IfOk, IfErr, IsOk, OnErr};
 ghost use Rattle.vx_call.specs.declared.history.Traced.{Traced};
+ghost use Rattle.vx_call.specs.Built.{is_built};
 ghost use Rattle.vx_call.specs.Plain.{is_plain, takes_no_memory};
 ghost use Rattle.vx_context.specs.Stands.{IsNext};
 ghost use Rattle.vx_bus_store.specs.Stands.{HavePlaces, AreOfOneHistory};
@@ -63,6 +64,7 @@ fn plain_row(
 ) -> Result<Reply, Unmade>
     requires small { at.0 < LIMIT }
     requires plain { IsTrue (is_plain call) }
+    requires built { is_built call ≡ true }
     requires one { AreOfOneHistory contexts.old timers.old bus.old }
     requires places { HavePlaces contexts.old bus.old }
     ensures ok { IfOk result (λ reply. (history : List Traced) → PartsStand passes.old now.old contexts.old timers.old bus.old history → IsNext at history → PartsFollow passes.new now.new contexts.new timers.new bus.new history pass call reply) }
@@ -95,12 +97,14 @@ impl Hub {
         }
     }
 
-    /// Makes a plain call for a pass that is there, and gives the machine's reply.
+    /// Makes a plain call for a pass that is there, and gives the machine's reply. The call is one that has a body:
+    /// [`Call::is_built`] says so.
     /// Each call is one more entry of the history, also where it is refused; a refused call changes nothing else.
     /// Where the history has 2^48 entries the reply is the refusal `Spent`, and no entry is added.
     /// Where memory runs out the call comes back, and the hub stands for the same history.
     pub fn step(&mut self, pass: PassNo, call: Call) -> Result<Reply, Unmade>
-        requires { IsTrue (is_plain call) }
+        requires plain { IsTrue (is_plain call) }
+        requires built { is_built call ≡ true }
         ensures answered_as_the_machine { IfOk result (λ reply. Meets self.old self.new pass call reply) }
         ensures without_memory_as_before { OnErr result (Keeps self.old self.new) }
         ensures call_comes_back { IfErr result (λ unmade. unmade.call ≡ call) }

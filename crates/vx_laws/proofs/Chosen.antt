@@ -15,10 +15,12 @@ use Rattle.vx_data.specs.declared.ids.ConsumerId.{ConsumerId}
 use Rattle.vx_call.specs.declared.call.Call.{Call}
 use Rattle.vx_call.specs.declared.call.Call.TheVariants as calls
 use Rattle.vx_call.specs.declared.history.Consumer.{Consumer}
+use Rattle.vx_call.specs.declared.history.Deed.{Deed}
+use Rattle.vx_call.specs.declared.history.Deed.TheVariants as deeds
 use Rattle.vx_call.specs.declared.history.Traced.{Traced}
 use Rattle.vx_call.specs.History.{is_accepted, made_by, ended_by, lasting}
 use Rattle.vx_call.specs.Consumers.{handlers}
-use Rattle.vx_call.specs.Choices.{is_empty, chosen_at, choice_made, choice_kind, choices, choice}
+use Rattle.vx_call.specs.Choices.{is_empty, chosen_at, choice_by, choice_made, choice_kind, choices, choice}
 use Rattle.vx_call.specs.Rows.{ids_of}
 use Rattle.vx_call.proofs.Lasting.{and_false, lasting-append}
 use Rattle.vx_call.proofs.Filters.{filter_within}
@@ -100,10 +102,16 @@ IsFew (address ∷ other ∷ others) = ⊥
 few_at : (before : List Traced) (is_sent : Bool) (address : List ℕ) → IsFew (chosen_at before is_sent address)
 few_at before is_sent address = elim (is_sent && not (is_empty (handlers before address))) as (λ b. IsFew (cond b (address ∷ []) [])) [ true ↦ tt | false ↦ tt ]
 
-choice_few : (before : List Traced) (call : Call) → IsFew (choice_made before call)
-choice_few before (calls.Send address body options) = few_at before _ address
-choice_few before (calls.Request context address body options timeout) = few_at before _ address
-choice_few before _ = tt
+choice_few_by : (before : List Traced) (is_sent : Bool) (deed : Deed) → IsFew (choice_by before is_sent deed)
+choice_few_by before is_sent (deeds.Sends address headers body) = few_at before is_sent address
+choice_few_by before is_sent (deeds.Requests address headers body at) = few_at before is_sent address
+choice_few_by before is_sent _ = tt
+
+choice_few : (before : List Traced) (call : Call) (deed : Deed) → IsFew (choice_made before call deed)
+choice_few before (calls.Send address body options) deed = few_at before _ address
+choice_few before (calls.Request context address body options timeout once) deed = few_at before _ address
+choice_few before (calls.FrameIn conn frame) deed = choice_few_by before _ deed
+choice_few before _ deed = tt
 
 -- where the handler is there whose turn it is, it is chosen as often as there are choices
 chosen : (before : List Traced) (address : List ℕ) (live : List Consumer) (ids : List ConsumerId) (id : ConsumerId) (accepts : Bool) (made : List (List ℕ)) → ids ≡ id ∷ [] → turn (ids_of live) (choices before address) ≡ id ∷ [] →
@@ -124,7 +132,7 @@ pub chosen_in_turn : (before : List Traced) (new : Traced) (address : List ℕ) 
 chosen_in_turn before new address first others are =
     let is_choice = there before address first others are in
     let consumer : Consumer = is_choice.0 in
-    chosen before address (first ∷ others) (ids_of (option_to_list (choice before address))) consumer.id (is_accepted new.entry.reply) (choice_made before new.entry.call)
+    chosen before address (first ∷ others) (ids_of (option_to_list (choice before address))) consumer.id (is_accepted new.entry.reply) (choice_made before new.entry.call new.mark.deed)
     (ap (λ o. ids_of (option_to_list o)) is_choice.1)
     (its_turn before address (first ∷ others) are ∙ ap (λ o. option_to_list (option_map id_of o)) is_choice.1)
-    (choice_few before new.entry.call)
+    (choice_few before new.entry.call new.mark.deed)

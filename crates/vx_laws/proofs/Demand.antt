@@ -10,10 +10,14 @@ use Rattle.std.proofs.lemmas.List.{length-append, length_push}
 use Rattle.std.proofs.lemmas.List.Sums.{sum_by-append, length-filter, count_by-le-length}
 use Rattle.std.proofs.lemmas.List.Folds.{list_any-append}
 use Rattle.vx_data.specs.declared.ids.ConsumerId.{ConsumerId}
+use Rattle.vx_data.specs.declared.ids.ContextId.{ContextId}
 use Rattle.vx_data.specs.declared.ids.MessageId.{MessageId}
+use Rattle.vx_data.specs.declared.ids.PassNo.{PassNo}
 use Rattle.vx_data.specs.Ids.{same_consumer, same_message}
 use Rattle.vx_message.specs.declared.Lane.{Lane}
 use Rattle.vx_message.specs.declared.Message.{Message}
+use Rattle.vx_message.specs.declared.Owner.{Owner}
+use Rattle.vx_message.specs.declared.Owner.TheVariants as owners
 use Rattle.vx_consumer.specs.declared.flow.Arrive.TheVariants as arrives
 use Rattle.vx_consumer.specs.Flows.{arrival, room_less, room_more, freed}
 use Rattle.vx_consumer.specs.Mailboxes as boxes
@@ -24,9 +28,11 @@ use Rattle.vx_call.specs.declared.reply.Reply.{Reply}
 use Rattle.vx_call.specs.declared.reply.Reply.TheVariants as replies
 use Rattle.vx_call.specs.declared.reply.Task.TheVariants as tasks
 use Rattle.vx_call.specs.declared.history.Consumer.{Consumer}
+use Rattle.vx_call.specs.declared.history.Mark.{Mark}
 use Rattle.vx_call.specs.declared.history.Traced.{Traced}
 use Rattle.vx_call.specs.History.{is_accepted}
 use Rattle.vx_call.specs.Names.{next_message}
+use Rattle.vx_call.specs.Owners.{context_owning, is_context_owner}
 use Rattle.vx_call.specs.Consumers as consumers
 use Rattle.vx_call.specs.Consumers.{live}
 use Rattle.vx_call.specs.Arrivals.{reaches}
@@ -35,6 +41,8 @@ use Rattle.vx_call.specs.Items.{waiting, is_for}
 use Rattle.vx_call.specs.Machine.{IsLegal, MayFollow, answer, row}
 use Rattle.vx_call.proofs.Each.{by_entries}
 use Rattle.vx_call.proofs.Consumers.{live_named, live_found, live_came, same_consumer-true, same_consumer-self}
+use Rattle.vx_call.proofs.Homes.{context_owner}
+use Rattle.vx_call.proofs.Legal.{legal_front}
 use Rattle.vx_call.proofs.Items.{tasks_of}
 use Rattle.vx_call.proofs.Mailboxes.{mailbox_moved}
 use Rattle.vx_call.proofs.Parts.{own, message_in}
@@ -152,80 +160,94 @@ take_step id lane consumer message box taken fetched now more first fed is_now i
     ] refl is_now
 
 -- what an entry does to a mailbox with a bound
-entry_step : (history : List Traced) (id : ConsumerId) (box : Mailbox) (call : Call) (reply : Reply) (taken fetched now more : ℕ) → HandsFirst id box call reply → resumes id call reply ≡ false → Fed box taken fetched →
-    now ≡ taken + cond (hands_to id call reply) 1 0 → more ≡ fetched + fetches_for id call reply → Fed (after_moves box (cond (is_accepted reply) (moves_by id history call reply) [])) now more
-entry_step history id box (calls.Send address body options) reply taken fetched now more first none fed is_now is_more =
+entry_step : (history : List Traced) (consumer : Consumer) (pass : PassNo) (mark : Mark) (box : Mailbox) (call : Call) (reply : Reply) (taken fetched now more : ℕ) → HandsFirst consumer.id box call reply → resumes consumer.id call reply ≡ false → Fed box taken fetched →
+    now ≡ taken + cond (hands_to consumer.id call reply) 1 0 → more ≡ fetched + fetches_for consumer.id call reply → Fed (after_moves box (cond (is_accepted reply) (moves_by consumer history pass call mark reply) [])) now more
+entry_step history consumer pass mark box (calls.Send address body options) reply taken fetched now more first none fed is_now is_more =
     let same = fed_as box taken fetched now more fed (omega (arith, is_now)) (omega (arith, is_more)) in
-    may_move (λ m. Fed m now more) (is_accepted reply) (reaches history (calls.Send address body options) id) box (arrives_with (next_message history)) same (fed_put (next_message history) box now more same)
-entry_step history id box (calls.Publish address body options) reply taken fetched now more first none fed is_now is_more =
+    may_move (λ m. Fed m now more) (is_accepted reply) (reaches history (calls.Send address body options) mark.deed consumer.id) box (arrives_with (next_message history)) same (fed_put (next_message history) box now more same)
+entry_step history consumer pass mark box (calls.Publish address body options) reply taken fetched now more first none fed is_now is_more =
     let same = fed_as box taken fetched now more fed (omega (arith, is_now)) (omega (arith, is_more)) in
-    may_move (λ m. Fed m now more) (is_accepted reply) (reaches history (calls.Publish address body options) id) box (arrives_with (next_message history)) same (fed_put (next_message history) box now more same)
-entry_step history id box (calls.Request context address body options timeout) reply taken fetched now more first none fed is_now is_more =
+    may_move (λ m. Fed m now more) (is_accepted reply) (reaches history (calls.Publish address body options) mark.deed consumer.id) box (arrives_with (next_message history)) same (fed_put (next_message history) box now more same)
+entry_step history consumer pass mark box (calls.Request context address body options timeout once) reply taken fetched now more first none fed is_now is_more =
     let same = fed_as box taken fetched now more fed (omega (arith, is_now)) (omega (arith, is_more)) in
-    may_move (λ m. Fed m now more) (is_accepted reply) (reaches history (calls.Request context address body options timeout) id) box (arrives_with (next_message history)) same
+    may_move (λ m. Fed m now more) (is_accepted reply) (reaches history (calls.Request context address body options timeout once) mark.deed consumer.id) box (arrives_with (next_message history)) same
     (fed_put (next_message history) box now more same)
-entry_step history id box (calls.Unregister other) reply taken fetched now more first none fed is_now is_more =
+entry_step history consumer pass mark box (calls.Unregister other) reply taken fetched now more first none fed is_now is_more =
     let same = fed_as box taken fetched now more fed (omega (arith, is_now)) (omega (arith, is_more)) in
-    may_move (λ m. Fed m now more) (is_accepted reply) (consumers.ends history (calls.Unregister other) id) box boxes.ends same (fed_end box now more same)
-entry_step history id box (calls.Pause other) reply taken fetched now more first none fed is_now is_more =
+    may_move (λ m. Fed m now more) (is_accepted reply) (consumers.ends history pass (calls.Unregister other) mark consumer) box boxes.ends same (fed_end box now more same)
+entry_step history consumer pass mark box (calls.Pause other) reply taken fetched now more first none fed is_now is_more =
     let same = fed_as box taken fetched now more fed (omega (arith, is_now)) (omega (arith, is_more)) in
-    may_move (λ m. Fed m now more) (is_accepted reply) (same_consumer id other) box pauses same (fed_pause box now more (omega (arith, same.enough)))
-entry_step history id box (calls.Resume other) reply taken fetched now more first none fed is_now is_more =
-    not_moved (λ m. Fed m now more) (is_accepted reply) (same_consumer id other) box boxes.resumes none (fed_as box taken fetched now more fed (omega (arith, is_now)) (omega (arith, is_more)))
-entry_step history id box (calls.Fetch other count) reply taken fetched now more first none fed is_now is_more =
-    fetch_step (is_accepted reply) (same_consumer id other) count box taken fetched now more fed is_now is_more
-entry_step history id box (calls.Take lane) (replies.Task (tasks.Deliver consumer message)) taken fetched now more first none fed is_now is_more =
-    take_step id lane consumer message box taken fetched now more first fed is_now is_more
-entry_step history id box (calls.Take lane) reply taken fetched now more first none fed is_now is_more =
+    may_move (λ m. Fed m now more) (is_accepted reply) (same_consumer consumer.id other) box pauses same (fed_pause box now more (omega (arith, same.enough)))
+entry_step history consumer pass mark box (calls.Resume other) reply taken fetched now more first none fed is_now is_more =
+    not_moved (λ m. Fed m now more) (is_accepted reply) (same_consumer consumer.id other) box boxes.resumes none (fed_as box taken fetched now more fed (omega (arith, is_now)) (omega (arith, is_more)))
+entry_step history consumer pass mark box (calls.Fetch other count) reply taken fetched now more first none fed is_now is_more =
+    fetch_step (is_accepted reply) (same_consumer consumer.id other) count box taken fetched now more fed is_now is_more
+entry_step history consumer pass mark box (calls.Take lane) (replies.Task (tasks.Deliver other message)) taken fetched now more first none fed is_now is_more =
+    take_step consumer.id lane other message box taken fetched now more first fed is_now is_more
+entry_step history consumer pass mark box (calls.Take lane) reply taken fetched now more first none fed is_now is_more =
     no_move (λ m. Fed m now more) (is_accepted reply) box (fed_as box taken fetched now more fed (omega (arith, is_now)) (omega (arith, is_more)))
-entry_step history id box call reply taken fetched now more first none fed is_now is_more =
-    no_move (λ m. Fed m now more) (is_accepted reply) box (fed_as box taken fetched now more fed (omega (arith, is_now)) (omega (arith, is_more)))
+entry_step history consumer pass mark box (calls.FrameIn conn frame) reply taken fetched now more first none fed is_now is_more =
+    let same = fed_as box taken fetched now more fed (omega (arith, is_now)) (omega (arith, is_more)) in
+    may_move (λ m. Fed m now more) (is_accepted reply) (reaches history (calls.FrameIn conn frame) mark.deed consumer.id) box (arrives_with (next_message history)) same (fed_put (next_message history) box now more same)
+entry_step history consumer pass mark box call reply taken fetched now more first none fed is_now is_more =
+    let same = fed_as box taken fetched now more fed (omega (arith, is_now)) (omega (arith, is_more)) in
+    may_move (λ m. Fed m now more) (is_accepted reply) (consumers.ends history pass call mark consumer) box boxes.ends same (fed_end box now more same)
 
 -- ## A history
 
--- what holds of a consumer that was paused: its mailbox, while it is live, and what it took
+-- what holds of a consumer that was paused: its mailbox, while it is live, where it is of a context, and what it took
 record Feeds (now : List Traced) (id : ConsumerId) (taken fetched : ℕ) : Type 0 where
-  pub fed : (consumer : Consumer) → live now id ≡ Some consumer → Fed (mailbox now consumer) taken fetched
+  pub fed : (consumer : Consumer) → live now id ≡ Some consumer → is_context_owner consumer.owner ≡ true → Fed (mailbox now consumer) taken fetched
   pub few : taken ≤ fetched
 
 -- a Take of a legal history hands the consumer the first of its ready messages
-hands_first : (now : List Traced) (new : Traced) (id : ConsumerId) (consumer : Consumer) → MayFollow now new → live now id ≡ Some consumer → HandsFirst id (mailbox now consumer) new.entry.call new.entry.reply
-hands_first now new id consumer may is_live lane message is_call is_reply =
+hands_first : (now : List Traced) (new : Traced) (id : ConsumerId) (consumer : Consumer) (context : ContextId) → context_owning consumer.owner ≡ Some context → MayFollow now new → live now id ≡ Some consumer →
+    HandsFirst id (mailbox now consumer) new.entry.call new.entry.reply
+hands_first now new id consumer context owns may is_live lane message is_call is_reply =
     let task = tasks.Deliver id message in
     let found = waited now new.entry.pass lane task (sym is_reply ∙ may.answered ∙ ap (answer now new.entry.pass) is_call) in
     let first = first_waits now lane found.0 id found.1 (ap (is_for id) found.2 ∙ eq-eqb id.0.0 id.0.0 refl) in
-    let parts = stands now consumer (live_found now id consumer is_live) in (
+    let parts = stands now consumer context owns (live_found now id consumer is_live) in (
       map message_in first.0,
       sym parts.ready ∙ ap (λ i. map message_in (own i (tasks_of (waiting now)))) (sym (live_named now id consumer is_live)) ∙ ap (map message_in) first.1
           ∙ ap (λ t. message_in t ∷ map message_in first.0) found.2,
     )
 
+-- an owner that is a context
+the_context : (owner : Owner) → is_context_owner owner ≡ true → (context : ContextId) × (context_owning owner ≡ Some context)
+the_context (owners.Context context) is = (context, refl)
+the_context _ is = absurd cc
+
 -- so what it takes was fetched
-taken_fed : (now : List Traced) (new : Traced) (id : ConsumerId) (taken fetched : ℕ) → MayFollow now new → Feeds now id taken fetched → HandsTo id new.entry.call new.entry.reply → taken + 1 ≤ fetched
-taken_fed now new id taken fetched may feeds hand =
-    let is_live = takes_live now new id may hand in
-    let fed = feeds.fed is_live.0 is_live.1 in
-    let ready = hands_first now new id is_live.0 may is_live.1 hand.lane hand.message hand.called hand.replied in
+taken_fed : (now : List Traced) (new : Traced) (id : ConsumerId) (taken fetched : ℕ) → IsLegal now → MayFollow now new → Feeds now id taken fetched → HandsTo id new.entry.call new.entry.reply → taken + 1 ≤ fetched
+taken_fed now new id taken fetched lawful may feeds hand =
+    let home = takes_live now new id lawful may hand in
+    let consumer : Consumer = home.consumer in
+    let fed = feeds.fed consumer home.is_live (ap is_context_owner (context_owner consumer.owner home.context home.owns)) in
+    let ready = hands_first now new id consumer home.context home.owns may home.is_live hand.lane hand.message hand.called hand.replied in
     omega (arith, fed.enough, ap length ready.1)
 
-feeds_on : (now : List Traced) (new : Traced) (id : ConsumerId) (taken fetched after more : ℕ) → id.0.0 < length now → MayFollow now new → is_resumed_by id new ≡ false → Feeds now id taken fetched →
+feeds_on : (now : List Traced) (new : Traced) (id : ConsumerId) (taken fetched after more : ℕ) → id.0.0 < length now → IsLegal now → MayFollow now new → is_resumed_by id new ≡ false → Feeds now id taken fetched →
     after ≡ taken + cond (is_taken_by id new) 1 0 → more ≡ fetched + fetched_by id new → Feeds (now ++ new ∷ []) id after more
-feeds_on now new id taken fetched after more earlier may none feeds is_after is_more = record {
-  fed = λ consumer is_live.
+feeds_on now new id taken fetched after more earlier lawful may none feeds is_after is_more = record {
+  fed = λ consumer is_live of_context.
       (let named : id ≡ consumer.id = live_named (now ++ new ∷ []) id consumer is_live in
       elim (live_came now new consumer (live_found (now ++ new ∷ []) id consumer is_live)) as (λ _. Fed (mailbox (now ++ new ∷ []) consumer) after more) [
         | inl stays ↦
             (let was : live now id ≡ Some consumer = ap (live now) named ∙ stays.was in
             let box = mailbox now consumer in
-            let After : ConsumerId → Type 0 = λ i. Fed (after_moves box (cond (is_accepted new.entry.reply) (moves_by i now new.entry.call new.entry.reply) [])) after more in
+            let its = the_context consumer.owner of_context in
             let Goal : Mailbox → Type 0 = λ m. Fed m after more in
-            subst Goal (sym (mailbox_moved now new consumer stays.was))
-            (subst After named (entry_step now id box new.entry.call new.entry.reply taken fetched after more (hands_first now new id consumer may was) none (feeds.fed consumer was) is_after is_more)))
+            subst Goal (sym (mailbox_moved now new consumer of_context stays.was))
+            (entry_step now consumer new.entry.pass new.mark box new.entry.call new.entry.reply taken fetched after more
+            (subst (λ i. HandsFirst i box new.entry.call new.entry.reply) named (hands_first now new id consumer its.0 its.1 may was))
+            (ap (λ i. resumes i new.entry.call new.entry.reply) (sym named) ∙ none) (feeds.fed consumer was of_context)
+            (is_after ∙ ap (λ i. taken + cond (hands_to i new.entry.call new.entry.reply) 1 0) named) (is_more ∙ ap (λ i. fetched + fetches_for i new.entry.call new.entry.reply) named)))
         | inr keyed ↦ absurd (omega (arith, earlier, keyed, ap (λ i. i.0.0) named))
       ]);
   few =
       (elim (is_taken_by id new) as (λ b. is_taken_by id new ≡ b → after ≡ taken + cond b 1 0 → after ≤ more) [
-        | true ↦ λ its is_one. omega (arith, is_one, is_more, taken_fed now new id taken fetched may feeds (hands_so id new.entry.call new.entry.reply its))
+        | true ↦ λ its is_one. omega (arith, is_one, is_more, taken_fed now new id taken fetched lawful may feeds (hands_so id new.entry.call new.entry.reply its))
         | false ↦ λ not_its is_none. omega (arith, is_none, is_more, feeds.few)
       ] refl is_after);
 }
@@ -238,7 +260,7 @@ feeds_first before pause id may called done =
     let named = named_earlier before pause id may (ap (row before pause.entry.pass) called) done in (
       named,
       record {
-        fed = λ consumer is_live.
+        fed = λ consumer is_live of_context.
             (let same : id ≡ consumer.id = live_named (before ++ pause ∷ []) id consumer is_live in
             let box = mailbox before consumer in
             elim (live_came before pause consumer (live_found (before ++ pause ∷ []) id consumer is_live)) as (λ _. Fed (mailbox (before ++ pause ∷ []) consumer) 0 0) [
@@ -246,9 +268,9 @@ feeds_first before pause id may called done =
                   (let Goal : Mailbox → Type 0 = λ m. Fed m 0 0 in
                   subst Goal
                   (sym
-                  (mailbox_moved before pause consumer stays.was
-                  ∙ ap (λ b. after_moves box (cond b (moves_by consumer.id before pause.entry.call pause.entry.reply) [])) done
-                  ∙ ap (λ call. after_moves box (moves_by consumer.id before call pause.entry.reply)) called
+                  (mailbox_moved before pause consumer of_context stays.was
+                  ∙ ap (λ b. after_moves box (cond b (moves_by consumer before pause.entry.pass pause.entry.call pause.mark pause.entry.reply) [])) done
+                  ∙ ap (λ call. after_moves box (moves_by consumer before pause.entry.pass call pause.mark pause.entry.reply)) called
                   ∙ ap (λ b. after_moves box (cond b (pauses ∷ []) [])) (ap (same_consumer consumer.id) same ∙ same_consumer-self consumer.id)))
                   (fed_pause box 0 0 (omega arith)))
               | inr keyed ↦ absurd (omega (arith, named, keyed, ap (λ i. i.0.0) same))
@@ -271,12 +293,14 @@ module _ (history : List Traced) (legal : IsLegal history) (id : ConsumerId) (be
       let cut : history ≡ before ++ pause ∷ (since ++ new ∷ after) = parts ∙ ap (λ later. before ++ pause ∷ later) (sym rest) in
       let both = sym (list_any-append (is_resumed_by id) since (new ∷ [])) ∙ none in
       let far = stages (new ∷ after) cut (neither_first (list_any (is_resumed_by id) since) (is_resumed_by id new) both) in
-      let may = legal now new after (cut ∙ sym (append_assoc before (pause ∷ since) (new ∷ after))) in
+      let split = cut ∙ sym (append_assoc before (pause ∷ since) (new ∷ after)) in
+      let may = legal now new after split in
+      let lawful : IsLegal now = legal_front now (new ∷ after) (subst (λ (h : List Traced). IsLegal h) split legal) in
       let whole : (before ++ pause ∷ since) ++ new ∷ [] ≡ before ++ pause ∷ (since ++ new ∷ []) = append_assoc before (pause ∷ since) (new ∷ []) in
       let Goal : List Traced → Type 0 = λ h. Feeds h id (taken_in (since ++ new ∷ []) id) (fetched_in (since ++ new ∷ []) id) in (
         far.0,
         subst Goal whole
-            (feeds_on now new id (taken_in since id) (fetched_in since id) (taken_in (since ++ new ∷ []) id) (fetched_in (since ++ new ∷ []) id) (omega (arith, far.0, length-append before (pause ∷ since))) may
+            (feeds_on now new id (taken_in since id) (fetched_in since id) (taken_in (since ++ new ∷ []) id) (fetched_in (since ++ new ∷ []) id) (omega (arith, far.0, length-append before (pause ∷ since))) lawful may
             (neither_last (list_any (is_resumed_by id) since) (is_resumed_by id new) both) far.1 (one_taken id since new) (omega (arith, sum_by-append (fetched_by id) since (new ∷ [])))),
       ))
 

@@ -22,7 +22,8 @@ use Rattle.vx_call.specs.Items.{untaken}
 use Rattle.vx_call.specs.Machine.{IsLegal, answer}
 use Rattle.vx_call.proofs.Each.{Each, weaken, accepted, lasting_each}
 use Rattle.vx_call.proofs.Found.{find_none, find_neither, later_name}
-use Rattle.vx_laws.proofs.Splits.{legal_front}
+use Rattle.vx_call.proofs.Legal.{legal_front}
+use Rattle.vx_call.proofs.Items.{is_of_bus}
 use Rattle.vx_laws.proofs.Handed.{waited, next_task}
 use Rattle.vx_laws.proofs.Agains.{again_of}
 use Rattle.vx_laws.proofs.Origins.{HasAgain, HasOrigin, untaken_origins}
@@ -38,6 +39,13 @@ IsOtherAgain request (Some again) = again ≢ request
 abbrev pub IsOtherMessage : MessageId → Task → Type 0
 IsOtherMessage request (tasks.Deliver consumer message) = message.id ≢ request
 IsOtherMessage request (tasks.Outcome other outcome) = IsOtherAgain request (again_of outcome)
+IsOtherMessage request _ = Unit {0}
+
+-- tasks that are no message and no outcome give none out
+pub other_of_bus : (request : MessageId) (task : Task) → (is_of_bus task ≡ true → IsOtherMessage request task) → IsOtherMessage request task
+other_of_bus request (tasks.Deliver consumer message) other = other refl
+other_of_bus request (tasks.Outcome asked outcome) other = other refl
+other_of_bus request _ other = tt
 
 not_same : (request id : MessageId) → id ≢ request → same_message request id ≡ false
 not_same request id differs =
@@ -50,6 +58,7 @@ task_gives request receiver (tasks.Outcome asked (outcomes.Ok headers body (Some
     ap (λ b. cond b (Some (record { id = again; receiver = receiver; request = true })) None) (not_same request again other)
 task_gives request receiver (tasks.Outcome asked (outcomes.Ok headers body None)) other = refl
 task_gives request receiver (tasks.Outcome asked (outcomes.Failed failure)) other = refl
+task_gives request receiver _ other = refl
 
 entry_gives : (history : List Traced) (request : MessageId) (call : Call) (reply : Reply) → ((lane : Lane) (task : Task) → call ≡ calls.Take lane → reply ≡ replies.Task task → IsOtherMessage request task) →
     find (is_given_as request) (given_made history call reply) ≡ None
@@ -78,11 +87,11 @@ not_given history new request before others =
 -- ## What is there was made before
 
 -- a Take that follows hands out a task that is there
-pub taken_task : (P : Task → Type 0) (history : List Traced) (new : Traced) (lane : Lane) (task : Task) → IsLegal (history ++ new ∷ []) → IsTake new lane task → Each P (untaken history) → P task
-taken_task P history new lane task legal take each =
+pub taken_task : (P : Task → Type 0) (history : List Traced) (new : Traced) (lane : Lane) (task : Task) → IsLegal (history ++ new ∷ []) → IsTake new lane task → is_of_bus task ≡ true → Each P (untaken history) → P task
+taken_task P history new lane task legal take bus each =
     let answered : new.entry.reply ≡ answer history new.entry.pass new.entry.call = (legal history new [] refl).answered in
     let found = waited history new.entry.pass lane task (sym take.1 ∙ answered ∙ ap (answer history new.entry.pass) take.0) in
-    subst P found.2 (next_task P history lane found.0 found.1 each)
+    subst P found.2 (next_task P history lane found.0 found.1 (ap is_of_bus found.2 ∙ bus) each)
 
 cut_earlier : (history before after : List Traced) (new : Traced) (number : ℕ) → history ≡ before ++ new ∷ after → length before ≡ number → number < length history
 cut_earlier history before after new number parts at =
@@ -90,37 +99,39 @@ cut_earlier history before after new number parts at =
     let lengths = length-append before (new ∷ after) in
     omega arith
 
-not_next_again : (history : List Traced) (again : Option MessageId) → HasAgain history again → IsOtherAgain (next_message history) again
-not_next_again history None asked = tt
-not_next_again history (Some again) asked = λ same.
+not_next_again : (history : List Traced) (request : MessageId) (again : Option MessageId) → HasAgain history request again → IsOtherAgain (next_message history) again
+not_next_again history request None asked = tt
+not_next_again history request (Some again) asked = λ same.
     (let earlier = cut_earlier history asked.before asked.after asked.new again.0.0 asked.parts asked.at in let e = ap (λ (m : MessageId). m.0.0) same in absurd (omega arith))
 
 -- a task that is there gives out a message that was made before
 pub not_next : (history : List Traced) (task : Task) → HasOrigin history task → IsOtherMessage (next_message history) task
 not_next history (tasks.Deliver consumer message) origin = λ same.
     (let earlier = cut_earlier history origin.before origin.after origin.new message.id.0.0 origin.parts origin.at in let e = ap (λ (m : MessageId). m.0.0) same in absurd (omega arith))
-not_next history (tasks.Outcome request outcome) origin = not_next_again history (again_of outcome) origin
+not_next history (tasks.Outcome request outcome) origin = not_next_again history request (again_of outcome) origin
+not_next history _ origin = absurd origin
 
 -- ## The next message was not given out
 
 abbrev IsGivenEarlier : List Traced → Given → Type 0
 IsGivenEarlier history given = IsLegal history → given.id.0.0 < length history
 
-task_given : (history : List Traced) (new : Traced) (receiver : Option ContextId) (task : Task) → (IsLegal (history ++ new ∷ []) → HasOrigin history task) → Each (IsGivenEarlier (history ++ new ∷ [])) (given_by_task receiver task)
+task_given : (history : List Traced) (new : Traced) (receiver : Option ContextId) (task : Task) → (is_of_bus task ≡ true → IsLegal (history ++ new ∷ []) → HasOrigin history task) → Each (IsGivenEarlier (history ++ new ∷ [])) (given_by_task receiver task)
 task_given history new receiver (tasks.Deliver consumer message) from = (
-  λ legal. (let origin = from legal in let earlier = cut_earlier history origin.before origin.after origin.new message.id.0.0 origin.parts origin.at in let longer = length_push history new in omega arith),
+  λ legal. (let origin = from refl legal in let earlier = cut_earlier history origin.before origin.after origin.new message.id.0.0 origin.parts origin.at in let longer = length_push history new in omega arith),
   tt,
 )
 task_given history new receiver (tasks.Outcome asked (outcomes.Ok headers body (Some again))) from = (
-  λ legal. (let origin = from legal in let earlier = cut_earlier history origin.before origin.after origin.new again.0.0 origin.parts origin.at in let longer = length_push history new in omega arith),
+  λ legal. (let origin = from refl legal in let earlier = cut_earlier history origin.before origin.after origin.new again.0.0 origin.parts origin.at in let longer = length_push history new in omega arith),
   tt,
 )
 task_given history new receiver (tasks.Outcome asked (outcomes.Ok headers body None)) from = tt
 task_given history new receiver (tasks.Outcome asked (outcomes.Failed failure)) from = tt
+task_given history new receiver _ from = tt
 
 entry_given : (history : List Traced) (new : Traced) (call : Call) (reply : Reply) → new.entry.call ≡ call → new.entry.reply ≡ reply → Each (IsGivenEarlier (history ++ new ∷ [])) (given_made history call reply)
 entry_given history new (calls.Take lane) (replies.Task task) called replied =
-    task_given history new (context_of history task) task (λ legal. taken_task (HasOrigin history) history new lane task legal (called, replied) (untaken_origins history))
+    task_given history new (context_of history task) task (λ bus legal. taken_task (HasOrigin history) history new lane task legal (called, replied) bus (untaken_origins history))
 entry_given history new (calls.Take lane) _ called replied = tt
 entry_given history new _ reply called replied = tt
 

@@ -1,6 +1,8 @@
 -- What a Take hands out had waited.
 use Rattle.std.proofs.Common.{◌≡◌, ℕ, List, ◌∷◌, ◌++◌, length, refl, ap, sym, ◌∙◌, subst}
-use Rattle.std.specs.Prelude.{find, Option, None, Some}
+use Rattle.std.specs.Prelude.{true, find, Option, None, Some}
+use Rattle.std.specs.Option.{option_or}
+use Rattle.vx_data.specs.declared.ids.EntryNo.{EntryNo}
 use Rattle.vx_data.specs.declared.ids.PassNo.{PassNo}
 use Rattle.vx_message.specs.declared.Lane.{Lane}
 use Rattle.vx_call.specs.declared.call.Call.TheVariants as calls
@@ -9,12 +11,15 @@ use Rattle.vx_call.specs.declared.reply.Reply.{Reply}
 use Rattle.vx_call.specs.declared.reply.Reply.TheVariants as replies
 use Rattle.vx_call.specs.declared.reply.Task.{Task}
 use Rattle.vx_call.specs.declared.history.Traced.{Traced}
-use Rattle.vx_call.specs.Items.{Waiting, same_task, untaken, waiting}
+use Rattle.vx_call.specs.Items.{Waiting, untaken, waiting}
+use Rattle.vx_call.specs.Kinds.{same_task}
 use Rattle.vx_call.specs.Next.{next}
 use Rattle.vx_call.specs.Refusals.{unless_refused, spent}
-use Rattle.vx_call.specs.Rows.{take_refusal, handed_out}
+use Rattle.vx_call.specs.Closings.{hub_closed_at}
+use Rattle.vx_call.specs.Rows.{take_refusal, handed_out, unless_closed}
 use Rattle.vx_call.specs.Machine.{IsLegal, answer}
 use Rattle.vx_call.proofs.Each.{Each, Each-find, weaken}
+use Rattle.vx_call.proofs.Items.{is_of_bus}
 use Rattle.vx_call.proofs.Waiting.{waiting_untaken}
 use Rattle.vx_laws.specs.Entries.{TakesAt}
 use Rattle.vx_laws.proofs.Splits.{Split, split_at}
@@ -32,7 +37,11 @@ pub record Handed (history : List Traced) (i : ℕ) (lane : Lane) (task : Task) 
   pub found : next before lane ≡ Some item
   pub is_task : item.task ≡ task
 
-not_refused : (o : Option Refusal) (reply : Reply) (task : Task) → unless_refused o reply ≡ replies.Task task → reply ≡ replies.Task task
+pub not_closed : (o : Option EntryNo) (reply : Reply) (task : Task) → unless_closed o reply ≡ replies.Task task → reply ≡ replies.Task task
+not_closed None reply task h = h
+not_closed (Some at) reply task h = cc
+
+pub not_refused : (o : Option Refusal) (reply : Reply) (task : Task) → unless_refused o reply ≡ replies.Task task → reply ≡ replies.Task task
 not_refused None reply task h = h
 not_refused (Some refusal) reply task h = cc
 
@@ -44,7 +53,9 @@ pub waited : (before : List Traced) (pass : PassNo) (lane : Lane) (task : Task) 
     (item : Waiting) × (next before lane ≡ Some item) × (item.task ≡ task)
 waited before pass lane task answered =
     let reply = handed_out (next before lane) in
-    is_found (next before lane) task (not_refused (take_refusal before pass lane) reply task (not_refused (spent before) _ task (sym answered)))
+    is_found (next before lane) task
+    (not_refused (take_refusal before pass lane) reply task
+    (not_closed (hub_closed_at before) _ task (not_refused (option_or (spent before) None) _ task (sym answered))))
 
 pub handed : (history : List Traced) (i : ℕ) (lane : Lane) (task : Task) → IsLegal history → TakesAt history i lane task → Handed history i lane task
 handed history i lane task legal takes =
@@ -65,16 +76,16 @@ handed history i lane task legal takes =
       is_task = found.2;
     }
 
--- what holds of each task that was not taken holds of each that waits
-each_waiting : (P : Task → Type 0) (history : List Traced) → Each P (untaken history) → Each (λ item. P item.task) (waiting history)
+-- what holds of each message and outcome that was not taken holds of each that waits
+each_waiting : (P : Task → Type 0) (history : List Traced) → Each P (untaken history) → Each (λ item. is_of_bus item.task ≡ true → P item.task) (waiting history)
 each_waiting P history each =
-    weaken (λ item. find (same_task item.task) (untaken history) ≡ Some item.task) (λ item. P item.task) (waiting history)
-    (λ item found. Each-find P (same_task item.task) (untaken history) item.task each found) (waiting_untaken history)
+    weaken (λ item. is_of_bus item.task ≡ true → find (same_task item.task) (untaken history) ≡ Some item.task) (λ item. is_of_bus item.task ≡ true → P item.task) (waiting history)
+    (λ item found bus. Each-find P (same_task item.task) (untaken history) item.task each (found bus)) (waiting_untaken history)
 
 -- ... and of the next one of a lane
-pub next_task : (P : Task → Type 0) (history : List Traced) (lane : Lane) (item : Waiting) → next history lane ≡ Some item → Each P (untaken history) → P item.task
-next_task P history lane item found each = Each-find (λ item. P item.task) _ (waiting history) item (each_waiting P history each) found
+pub next_task : (P : Task → Type 0) (history : List Traced) (lane : Lane) (item : Waiting) → next history lane ≡ Some item → is_of_bus item.task ≡ true → Each P (untaken history) → P item.task
+next_task P history lane item found bus each = Each-find (λ it. is_of_bus it.task ≡ true → P it.task) _ (waiting history) item (each_waiting P history each) found bus
 
 -- ... and so of one that is handed out
-pub handed_task : (P : Task → Type 0) (history : List Traced) (i : ℕ) (lane : Lane) (task : Task) (take : Handed history i lane task) → Each P (untaken take.before) → P task
-handed_task P history i lane task take each = subst P take.is_task (next_task P take.before lane take.item take.found each)
+pub handed_task : (P : Task → Type 0) (history : List Traced) (i : ℕ) (lane : Lane) (task : Task) (take : Handed history i lane task) → is_of_bus task ≡ true → Each P (untaken take.before) → P task
+handed_task P history i lane task take bus each = subst P take.is_task (next_task P take.before lane take.item take.found (ap is_of_bus take.is_task ∙ bus) each)

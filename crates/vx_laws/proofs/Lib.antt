@@ -2,12 +2,12 @@ pub mod Splits
 pub mod Handed
 pub mod Gone
 pub mod Made
+pub mod Taken
 pub mod Agains
 pub mod Origins
 pub mod Deliveries
 pub mod Outcomes
 pub mod Ended
-pub mod Taken
 pub mod Givings
 pub mod Nobody
 pub mod Lost
@@ -25,3 +25,10 @@ pub mod Takes
 pub mod Demand
 pub mod Leaving
 pub mod Overlap
+pub mod Ticks
+pub mod Fires
+pub mod Closed
+pub mod Childless
+pub mod Opened
+pub mod Resting
+pub mod Undeploying

@@ -2,7 +2,7 @@
 use Rattle.std.proofs.Common.{◌≡◌, ℕ, ◌%◌, List, [], ◌∷◌, length, refl, ap, sym, ◌∙◌, subst}
 use Rattle.std.specs.Prelude.{true, false, not, cond, ◌&&◌, ◌||◌, is_some, slice_get, Option, None, Some}
 use Rattle.std.specs.List.{list_any}
-use Rattle.std.specs.Option.{option_to_list}
+use Rattle.std.specs.Option.{option_or, option_to_list}
 use Rattle.std.specs.Str.{bytes_eq}
 use Rattle.vx_data.specs.declared.ids.ConsumerId.{ConsumerId}
 use Rattle.vx_data.specs.declared.ids.PassNo.{PassNo}
@@ -17,13 +17,15 @@ use Rattle.vx_call.specs.declared.reply.Reply.TheVariants as replies
 use Rattle.vx_call.specs.declared.reply.To.{To}
 use Rattle.vx_call.specs.declared.reply.To.TheVariants as to
 use Rattle.vx_call.specs.declared.history.Consumer.{Consumer}
+use Rattle.vx_call.specs.declared.history.Deed.{Deed}
+use Rattle.vx_call.specs.declared.history.Deed.TheVariants as deeds
 use Rattle.vx_call.specs.declared.history.Traced.{Traced}
 use Rattle.vx_call.specs.History.{is_accepted}
 use Rattle.vx_call.specs.Consumers.{handlers}
 use Rattle.vx_call.specs.Messages.{sent, received}
 use Rattle.vx_call.specs.Choices.{is_empty, chosen_at, choice_made, choices, choice}
 use Rattle.vx_call.specs.Mailboxes.{arrival_at}
-use Rattle.vx_call.specs.Refusals.{unless_refused, spent}
+use Rattle.vx_call.specs.Refusals.{unless_refused, spent, shut}
 use Rattle.vx_call.specs.Rows.{arrived_at, reached_by, destination, send_refusal, request_refusal, ids_of}
 use Rattle.vx_call.specs.Machine.{IsLegal, answer}
 use Rattle.vx_laws.specs.Turns.{named_by, address_of, NamesChosen}
@@ -70,11 +72,11 @@ reached_named before address reply alike accepts (Some message) (Some consumer) 
     ∙ named)
 
 destination_named : (before : List Traced) (call : Call) (address : List ℕ) (reply : To → Reply) → ((t : To) → named_by (reply t) ≡ named_by (replies.Sent t)) → ((t : To) → is_accepted (reply t) ≡ true) →
-    Names before (chosen_at before (is_some (sent before call)) address) address (reply (destination before call address))
+    Names before (chosen_at before (is_some (sent before call deeds.Nothing)) address) address (reply (destination before call address))
 destination_named before call address reply alike accepts =
-    let o = received before call in
+    let o = received before call deeds.Nothing in
     let c = choice before address in
-    elim (is_some (sent before call)) as (λ b. Names before (chosen_at before b address) address (reply (cond b (reached_by before o c) to.Stopped))) [
+    elim (is_some (sent before call deeds.Nothing)) as (λ b. Names before (chosen_at before b address) address (reply (cond b (reached_by before o c) to.Stopped))) [
       | true ↦ reached_named before address reply alike accepts o c refl
       | false ↦ λ id named. absurd (nobody_named reply alike to.Stopped refl id named)
     ]
@@ -86,26 +88,26 @@ asked_alike (to.Lost id) = refl
 asked_alike (to.Consumer id) = refl
 asked_alike to.Asker = refl
 
-answer_named : (before : List Traced) (pass : PassNo) (call : Call) (address : List ℕ) → address_of call ≡ address ∷ [] → Names before (choice_made before call) address (answer before pass call)
-answer_named before pass (calls.Send other body options) address is_address =
+answer_named : (before : List Traced) (pass : PassNo) (call : Call) (deed : Deed) (address : List ℕ) → address_of call ≡ address ∷ [] → Names before (choice_made before call deed) address (answer before pass call)
+answer_named before pass (calls.Send other body options) deed address is_address =
     let call = calls.Send other body options in
-    let made = chosen_at before (is_some (sent before call)) other in
+    let made = chosen_at before (is_some (sent before call deeds.Nothing)) other in
     let same : other ≡ address = cc in
     let P : List ℕ → Type 0 = λ a. Names before made a (answer before pass call) in
     subst P same
-    (unless before made other (spent before) _
-    (unless before made other (send_refusal before other body options) _ (destination_named before call other (λ t. replies.Sent t) (λ t. refl) (λ t. refl))))
-answer_named before pass (calls.Request context other body options timeout) address is_address =
-    let call = calls.Request context other body options timeout in
-    let made = chosen_at before (is_some (sent before call)) other in
+    (unless before made other (option_or (spent before) (shut before call)) _
+    (unless before made other (send_refusal before pass other body options) _ (destination_named before call other (λ t. replies.Sent t) (λ t. refl) (λ t. refl))))
+answer_named before pass (calls.Request context other body options timeout once) deed address is_address =
+    let call = calls.Request context other body options timeout once in
+    let made = chosen_at before (is_some (sent before call deeds.Nothing)) other in
     let same : other ≡ address = cc in
     let P : List ℕ → Type 0 = λ a. Names before made a (answer before pass call) in
     subst P same
-    (unless before made other (spent before) _
+    (unless before made other (option_or (spent before) (shut before call)) _
     (unless before made other (request_refusal before pass context other body options timeout) _ (destination_named before call other (λ t. replies.Asked t) asked_alike (λ t. refl))))
-answer_named before pass _ address is_address = absurd cc
+answer_named before pass _ deed address is_address = absurd cc
 
 pub names_chosen : (history : List Traced) → IsLegal history → NamesChosen history
 names_chosen history legal = λ before new after address id parts is_address named.
-    (let P : Reply → Type 0 = Names before (choice_made before new.entry.call) address in
-    subst P (sym (legal before new after parts).answered) (answer_named before new.entry.pass new.entry.call address is_address) id named)
+    (let P : Reply → Type 0 = Names before (choice_made before new.entry.call new.mark.deed) address in
+    subst P (sym (legal before new after parts).answered) (answer_named before new.entry.pass new.entry.call new.mark.deed address is_address) id named)

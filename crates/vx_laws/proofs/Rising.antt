@@ -15,8 +15,7 @@ use Rattle.vx_call.proofs.Tasks.{IsKnown, IsFresh, new_fresh, untaken_known}
 -- whether the second is a message that was sent before the first
 abbrev pub is_late : Task → Task → Bool
 is_late (tasks.Deliver consumer message) (tasks.Deliver other another) = nat_lt another.id.0.0 message.id.0.0
-is_late (tasks.Deliver consumer message) (tasks.Outcome request outcome) = false
-is_late (tasks.Outcome request outcome) other = false
+is_late _ _ = false
 
 abbrev IsInTime : Task → Task → Type 0
 IsInTime task other = is_late task other ≡ false
@@ -25,13 +24,17 @@ IsInTime task other = is_late task other ≡ false
 known_first : (history : List Traced) (task other : Task) → IsKnown history task → IsFresh history other → IsInTime task other
 known_first history (tasks.Deliver consumer message) (tasks.Deliver other another) known fresh = grind (arith, nat_tests)
 known_first history (tasks.Deliver consumer message) (tasks.Outcome request outcome) known fresh = refl
+known_first history (tasks.Deliver consumer message) _ known fresh = absurd fresh
 known_first history (tasks.Outcome request outcome) other known fresh = refl
+known_first history _ other known fresh = absurd known
 
 -- nor are those that one entry makes
 fresh_together : (history : List Traced) (task other : Task) → IsFresh history task → IsFresh history other → IsInTime task other
 fresh_together history (tasks.Deliver consumer message) (tasks.Deliver other another) fresh also_fresh = grind (arith, nat_tests)
 fresh_together history (tasks.Deliver consumer message) (tasks.Outcome request outcome) fresh also_fresh = refl
+fresh_together history (tasks.Deliver consumer message) _ fresh also_fresh = absurd also_fresh
 fresh_together history (tasks.Outcome request outcome) other fresh also_fresh = refl
+fresh_together history _ other fresh also_fresh = absurd fresh
 
 made_in_time : (history : List Traced) (made : List Task) → Each (IsFresh history) made → Apart is_late made
 made_in_time history [] fresh = tt
@@ -42,7 +45,7 @@ stay_in_time history new in_time =
     let stays = λ (task : Task). not (ended_by task_kind history new task) in
     let made = made_by task_kind history new in
     let P : List Task → Type 0 = Apart is_late in
-    let fresh : Each (IsFresh history) made = accepted (IsFresh history) (is_accepted new.entry.reply) (task_made history new.entry.call) (λ ok. new_fresh history new.entry.call) in
+    let fresh : Each (IsFresh history) made = accepted (IsFresh history) (is_accepted new.entry.reply) (task_made history new.entry.pass new.entry.call new.mark.deed) (λ ok. new_fresh history new.entry.pass new.entry.call new.mark.deed) in
     subst P (sym (lasting-append task_kind history new))
     (Apart-cross is_late (filter stays (untaken history)) made (Apart-filter is_late stays (untaken history) in_time) (made_in_time history made fresh)
     (Each-filter (IsKnown history) (λ task. Each (IsInTime task) made) stays (untaken history)

@@ -1,8 +1,6 @@
--- Lists and legal histories, cut at an index.
-use Rattle.std.proofs.Common.{◌≡◌, ℕ, ◌<◌, zero, suc, List, [], ◌∷◌, ◌++◌, length, refl, ap, ◌∙◌, append_assoc, arith}
+-- Lists, cut at an index.
+use Rattle.std.proofs.Common.{◌≡◌, ℕ, ◌<◌, zero, suc, List, [], ◌∷◌, ◌++◌, length, refl, ap, ◌∙◌, arith}
 use Rattle.std.specs.Prelude.{slice_get, Some}
-use Rattle.vx_call.specs.declared.history.Traced.{Traced}
-use Rattle.vx_call.specs.Machine.{IsLegal}
 use Rattle.vx_call.proofs.Each.{Each}
 
 -- what stands before an index, at it and behind it
@@ -54,10 +52,6 @@ same_cut {A} (z ∷ before) after x (w ∷ other) rest y same at =
     let inner : before ++ x ∷ after ≡ other ++ y ∷ rest = cc in
     let cut = same_cut before after x other rest y inner (omega arith) in
     record { fronts = ap (λ (v : A). v ∷ before) e ∙ ap (λ (l : List A). w ∷ l) cut.fronts; items = cut.items }
-
--- what a legal history begins with is legal
-pub legal_front : (history after : List Traced) → IsLegal (history ++ after) → IsLegal history
-legal_front history after legal = λ before new rest split. legal before new (rest ++ after) (ap (λ (h : List Traced). h ++ after) split ∙ append_assoc before (new ∷ rest) after)
 
 -- what holds of any
 pub Each-any : {X : Type 0} (P : X → Type 0) (xs : List X) → ((x : X) → P x) → Each P xs

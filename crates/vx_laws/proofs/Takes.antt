@@ -15,17 +15,17 @@ use Rattle.vx_call.specs.declared.reply.Refusal.TheVariants as refusals
 use Rattle.vx_call.specs.declared.reply.Reply.{Reply}
 use Rattle.vx_call.specs.declared.reply.Reply.TheVariants as replies
 use Rattle.vx_call.specs.declared.reply.Task.TheVariants as tasks
-use Rattle.vx_call.specs.declared.history.Consumer.{Consumer}
 use Rattle.vx_call.specs.declared.history.Traced.{Traced}
 use Rattle.vx_call.specs.History.{is_accepted}
 use Rattle.vx_call.specs.Consumers.{live}
-use Rattle.vx_call.specs.Refusals.{unless_refused, spent, refused_if, not_your_consumer}
+use Rattle.vx_call.specs.Refusals.{unless_refused, spent, shut, refused_if, holder_closed, not_your_consumer}
 use Rattle.vx_call.specs.Rows.{consumer_refusal, consumer_row}
-use Rattle.vx_call.specs.Machine.{MayFollow, answer, row}
+use Rattle.vx_call.specs.Machine.{IsLegal, MayFollow, answer, row}
 use Rattle.vx_call.proofs.Consumers.{live_none, same_consumer-true}
 use Rattle.vx_laws.specs.Entries.{hands_to, is_taken_by, taken_in}
 use Rattle.vx_laws.proofs.Handed.{waited, next_task}
-use Rattle.vx_laws.proofs.Live.{IsForLive, untaken_live}
+use Rattle.vx_call.proofs.Items.{is_of_bus}
+use Rattle.vx_laws.proofs.Live.{IsAtHome, IsForLive, untaken_live}
 
 -- a Take that hands a message to the consumer
 pub record HandsTo (id : ConsumerId) (call : Call) (reply : Reply) : Type 0 where
@@ -44,12 +44,12 @@ hands_so id (calls.Take lane) (replies.Task (tasks.Deliver consumer message)) mi
 hands_so id (calls.Take lane) reply h = absurd cc
 hands_so id call reply h = absurd cc
 
--- ... so the consumer is live
-pub takes_live : (now : List Traced) (new : Traced) (id : ConsumerId) → MayFollow now new → HandsTo id new.entry.call new.entry.reply → (consumer : Consumer) × (live now id ≡ Some consumer)
-takes_live now new id may hand =
+-- ... so the consumer is live, and of a context
+pub takes_live : (now : List Traced) (new : Traced) (id : ConsumerId) → IsLegal now → MayFollow now new → HandsTo id new.entry.call new.entry.reply → IsAtHome now id
+takes_live now new id legal may hand =
     let task = tasks.Deliver id hand.message in
     let found = waited now new.entry.pass hand.lane task (sym hand.replied ∙ may.answered ∙ ap (answer now new.entry.pass) hand.called) in
-    subst (IsForLive now) found.2 (next_task (IsForLive now) now hand.lane found.0 found.1 (untaken_live now))
+    subst (IsForLive now) found.2 (next_task (IsForLive now) now hand.lane found.0 found.1 (ap is_of_bus found.2) (untaken_live now legal))
 
 pub one_taken : (id : ConsumerId) (since : List Traced) (new : Traced) → taken_in (since ++ new ∷ []) id ≡ taken_in since id + cond (is_taken_by id new) 1 0
 one_taken id since new =
@@ -66,9 +66,10 @@ named_none : (before : List Traced) (new : Traced) (id : ConsumerId) → MayFoll
     live before id ≡ None → ⊥
 named_none before new id may names done none =
     let pass = new.entry.pass in
-    let refused : consumer_refusal before pass id ≡ Some refusals.NoConsumer = ap (λ o. option_or (refused_if (is_none o) refusals.NoConsumer) (not_your_consumer before pass id)) none in
-    let no : is_accepted new.entry.reply ≡ false = ap is_accepted (may.answered ∙ ap (unless_refused (spent before)) names ∙ ap (λ o. unless_refused (spent before) (unless_refused o replies.Done)) refused)
-    ∙ refused_either_way (spent before) refusals.NoConsumer in
+    let above = option_or (spent before) (shut before new.entry.call) in
+    let refused : consumer_refusal before pass id ≡ Some refusals.NoConsumer = ap (λ o. option_or (refused_if (is_none o) refusals.NoConsumer) (option_or (not_your_consumer before pass id) (holder_closed before pass))) none in
+    let no : is_accepted new.entry.reply ≡ false = ap is_accepted (may.answered ∙ ap (unless_refused above) names ∙ ap (λ o. unless_refused above (unless_refused o replies.Done)) refused)
+    ∙ refused_either_way above refusals.NoConsumer in
     absurd cc
 
 pub named_earlier : (before : List Traced) (new : Traced) (id : ConsumerId) → MayFollow before new → row before new.entry.pass new.entry.call ≡ consumer_row before new.entry.pass id → is_accepted new.entry.reply ≡ true →

@@ -6,3 +6,5 @@ pub mod Order
 pub mod Demand
 pub mod Leaving
 pub mod Overlap
+pub mod Timers
+pub mod Undeploying

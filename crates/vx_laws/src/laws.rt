@@ -7,8 +7,10 @@ ghost use Rattle.vx_laws.specs.Demand.{TakesAsFetched};
 ghost use Rattle.vx_laws.specs.Leaving.{TakesNothingOnceEnded};
 ghost use Rattle.vx_laws.specs.Order.{TakesInOrder};
 ghost use Rattle.vx_laws.specs.Outcomes.{EndsRequestsOnce};
-ghost use Rattle.vx_laws.specs.Overlap.{HandlersNeverOverlap};
+ghost use Rattle.vx_laws.specs.Overlap.{HandlersNeverOverlap, LoopsNeverOverlap};
+ghost use Rattle.vx_laws.specs.Timers.{FiresInTime};
 ghost use Rattle.vx_laws.specs.Turns.{TakesTurns};
+ghost use Rattle.vx_laws.specs.Undeploying.{EndsInOrder};
 
 /// A message is taken once, or where it was published, once for each consumer.
 pub fn messages_are_delivered_once()
@@ -46,4 +48,21 @@ pub fn ended_consumers_take_nothing()
 /// Where two handlers of one context begin, the one that began first has ended in between.
 pub fn handlers_never_overlap()
     ensures { (history : List Traced) → IsLegal history → HandlersNeverOverlap history }
+{}
+
+/// Where two tasks of one event loop begin, the one that began first has ended in between.
+pub fn loops_never_overlap()
+    ensures { (history : List Traced) → IsLegal history → LoopsNeverOverlap history }
+{}
+
+/// A timer that fires once has its fire taken once at most. No fire is taken before its time, or behind a CancelTimer of
+/// its timer; of a periodic timer none is taken twice for one due moment. At most one fire of a timer waits.
+pub fn timers_fire_in_time()
+    ensures { (history : List Traced) → IsLegal history → FiresInTime history }
+{}
+
+/// A Stop is taken only once all children of its deployment are gone, and none is added then. Once a context is closed,
+/// no task of it is taken; only what ran then is finished.
+pub fn deployments_end_in_order()
+    ensures { (history : List Traced) → IsLegal history → EndsInOrder history }
 {}

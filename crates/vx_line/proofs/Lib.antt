@@ -1,3 +1,4 @@
 pub mod Choices
 pub mod Runs
 pub mod Forms
+pub mod Built

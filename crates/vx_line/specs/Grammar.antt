@@ -196,7 +196,7 @@ abbrev pub request_form : Form
 request_form = record { word = codes "request"; options = headers_option ∷ codec_option ∷ timeout_option ∷ []; tokens = AContext ∷ AText ∷ []; ending = ABody; make = make }
   where
     make : Chosen (headers_option ∷ codec_option ∷ timeout_option ∷ []) → Values (AContext ∷ AText ∷ []) ABody → Call
-    make (headers, (codec, (timeout, _))) (context, (address, body)) = calls.Request context address body (delivery headers codec) (timeout_of timeout)
+    make (headers, (codec, (timeout, _))) (context, (address, body)) = calls.Request context address body (delivery headers codec) (timeout_of timeout) None
 
 abbrev pub reply_form : Form
 reply_form = record { word = codes "reply"; options = headers_option ∷ codec_option ∷ []; tokens = ANumber 64 ∷ []; ending = ABody; make = make }

@@ -144,6 +144,7 @@ fn request(alloc: Global, tail: &[u8]) -> Result<Call, LineFault>
         body,
         options,
         timeout: timeout.unwrap_or(TIMEOUT),
+        once: None,
     })
 }
 

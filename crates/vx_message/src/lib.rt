@@ -2,12 +2,17 @@
 #![tactic(auto)]
 
 mod frame;
+mod kind;
 mod rules;
 
 pub use frame::{FrameMessage, InFrame, OutFrame, Permits};
+pub use kind::KindSpec;
 pub use rules::{Codec, CodecForm, Condition, MAX_ADDED_BYTES, MAX_RULES, Rule, Side, Verdict};
 use std::alloc::Global;
-use vx_data::{Body, ConsumerId, ContextId, EntryNo, Headers, MessageId, PassNo, Text};
+use vx_data::{
+    Body, ConnId, ConsumerId, ContextId, DeploymentId, EntryNo, Headers, MessageId, PassNo, PoolId,
+    QueuedId, Text, TimerId,
+};
 
 /// What goes with a message or a reply. (Vert.x core API, `DeliveryOptions`.)
 pub struct Options {
@@ -139,46 +144,130 @@ impl Drop for Outcome {
 pub enum Owner {
     Pass(PassNo),
     Context(ContextId),
-}
-
-/// A context that a pass made. Its tasks are taken by that pass alone.
-#[derive(Clone, Copy, PartialEq, Eq)]
-pub struct OutsideContext {
-    pub id: ContextId,
-    pub maker: PassNo,
+    Conn(ConnId),
 }
 
 /// Where a task is taken from.
 #[derive(Clone, Copy, PartialEq, Eq)]
 pub enum Lane {
+    /// The event loop of this number.
+    Loop(u8),
+    /// The worker pool that has no name.
+    Pool,
+    /// A worker pool that was added under a name.
+    Named(PoolId),
     /// The lane of an outside context, from which the context's maker takes.
     Own(ContextId),
+}
+
+/// A context: whom it belongs to, and where its tasks are taken from.
+#[derive(Clone, Copy, PartialEq, Eq)]
+pub struct Context {
+    pub id: ContextId,
+    /// The pass that made it, where it is an outside one. The others are those of verticles.
+    pub maker: Option<PassNo>,
+    /// The lane of its handlers' tasks.
+    pub lane: Lane,
+    /// The lane of its blocking code.
+    pub jobs: Lane,
+}
+
+/// A named worker pool: at most `size` tasks of it run at once.
+#[derive(Drop)]
+pub struct Pool {
+    pub id: PoolId,
+    pub name: Text,
+    pub size: u32,
+}
+
+/// How blocking code ended. (Vert.x core manual, "Running blocking code".)
+#[derive(Clone, Copy, PartialEq, Eq)]
+pub enum JobResult {
+    Value(i64),
+    Fail(i32),
+    NoMemory,
+}
+
+/// How the parts of a composite promise settle it. (Vert.x core manual, "Future coordination".)
+#[derive(Clone, Copy, PartialEq, Eq)]
+pub enum Compose {
+    /// It succeeds once all parts have, and fails with the first that does.
+    All,
+    /// It succeeds with the first part that does, and fails once all have.
+    Any,
+    /// It is settled once all parts are, and fails if one did.
+    Join,
+}
+
+/// How a start, or a deployment, ended. (Vert.x core manual, "Asynchronous Verticle start and stop".)
+#[derive(Clone, Copy, PartialEq, Eq)]
+pub enum DoneResult {
+    Ok,
+    Fail(i32),
+    NoMemory,
+}
+
+/// What a task keeps from running beside it.
+#[derive(Clone, Copy, PartialEq, Eq)]
+pub enum Mode {
+    /// A handler: no other handler of its context.
+    Handler,
+    /// Blocking code that goes in turn: no other such code of its context.
+    Ordered,
+    /// Blocking code that runs beside all else.
+    Free,
 }
 
 /// What kind of task an item is, by ids alone: who made the item keeps the rest of its task.
 #[derive(Clone, Copy, PartialEq, Eq)]
 pub enum ItemKind {
+    /// The start of a verticle.
+    Start(ContextId),
     /// A message for a consumer.
     Deliver(ConsumerId, MessageId),
     /// The outcome of a request.
     Outcome(MessageId),
+    /// A timer's time has come.
+    Fire(TimerId),
+    /// Code for a context.
+    Run(QueuedId),
+    /// Blocking code.
+    Job(QueuedId),
+    /// The result of blocking code.
+    JobDone(QueuedId),
+    /// A connection of a shared server, by the entry that accepted it.
+    Connected(EntryNo),
+    /// The end of a promise, by the work that awaits it.
+    PromiseEnd(QueuedId),
+    /// The end of deploying.
+    DeployEnd(DeploymentId),
+    /// The end of undeploying.
+    UndeployEnd(DeploymentId),
+    /// The stop of a verticle.
+    Stop(ContextId),
 }
 
-/// A task that waits for a context: the entry that made it ready, and its place among the items of that entry.
+/// A task that waits: the entry that made it ready, its place among the items of that entry, and the context that it is of.
 #[derive(Clone, Copy, PartialEq, Eq)]
 pub struct Item {
     pub entry: EntryNo,
     pub place: u64,
     pub context: ContextId,
+    pub lane: Lane,
+    pub mode: Mode,
     pub kind: ItemKind,
 }
 
-/// A task that a pass took and did not finish yet: the entry of the Take, and the context whose handler runs.
+/// A task that a pass took and did not finish yet: the entry of the Take, the lane that it took from, and the context
+/// that the task is of.
 #[derive(Clone, Copy, PartialEq, Eq)]
 pub struct Held {
     pub pass: PassNo,
     pub at: EntryNo,
+    pub lane: Lane,
     pub context: Option<ContextId>,
+    pub mode: Mode,
+    pub kind: ItemKind,
 }
 
 /// A message that a Take gave out: the context whose handler got it, and whether its sender waits for a reply.

@@ -1,6 +1,8 @@
 //! The text of replies.
 #![tactic(auto)]
 
+mod pieces;
+mod refusal;
 mod reply;
 mod text;
 

@@ -1,34 +1,18 @@
 //! The text of replies.
-ghost use Rattle.std.specs.Prelude.{◌≡◌, ◌++◌, OnOk, OnErr, codes, flat_map};
+ghost use Rattle.std.specs.Prelude.{◌≡◌, ◌++◌, OnOk, OnErr, IsTrue, codes, flat_map};
 ghost use Rattle.std.specs.Fmt.{decimal};
+ghost use Rattle.vx_reply_text.specs.Groups as groups;
 ghost use Rattle.vx_reply_text.specs.Replies as texts;
 
+use crate::pieces::{write_context, write_number, write_signed};
+use crate::refusal::write_refusal;
 use crate::text::append;
 use std::alloc::Global;
-use vx_call::{Refusal, Reply, Task, To};
-use vx_data::{Body, ConsumerId, ContextId, EntryNo, Headers, List, MessageId, NoMemory, Text};
+use vx_call::{DoneResult, JobResult, OutFrame, Reply, Task, To};
+use vx_data::{Body, ConsumerId, EntryNo, Headers, List, MessageId, NoMemory, ServerId, Text};
+use vx_frame_write::write_json;
 use vx_json::{write_body, write_text};
-use vx_message::{Failure, FailureKind, Message, Outcome, Owner};
-
-fn write_context(alloc: Global, context: ContextId, into: &mut Vec<u8>) -> Result<(), NoMemory>
-    ensures { OnOk result (into.new.items ≡ into.old.items ++ (codes "context " ++ texts.context_text context)) }
-{
-    let ContextId { entry, instance } = context;
-    let text = if instance == 0 {
-        format!(in alloc; "context {}", entry.0)?
-    } else {
-        format!(in alloc; "context {}.{instance}", entry.0)?
-    };
-    append(text.as_bytes(), into)
-}
-
-/// Appends a word, a space and a number.
-fn write_number(alloc: Global, word: &str, number: u64, into: &mut Vec<u8>) -> Result<(), NoMemory>
-    ensures { OnOk result (into.new.items ≡ into.old.items ++ (word.now ++ (codes " " ++ decimal number))) }
-{
-    let text = format!(in alloc; "{word} {number}")?;
-    append(text.as_bytes(), into)
-}
+use vx_message::{Failure, FailureKind, Message, Outcome};
 
 fn write_to(alloc: Global, to: To, into: &mut Vec<u8>) -> Result<(), NoMemory>
     ensures { OnOk result (into.new.items ≡ into.old.items ++ (codes " " ++ texts.to_text to)) }
@@ -196,52 +180,170 @@ fn write_outcome(
     }
 }
 
+/// Appends how blocking code or a promise ended.
+fn write_job_result(alloc: Global, ended: JobResult, into: &mut Vec<u8>) -> Result<(), NoMemory>
+    ensures { OnOk result (into.new.items ≡ into.old.items ++ texts.job_result_text ended) }
+{
+    match ended {
+        JobResult::Value(value) => write_signed(alloc, "value", value, into),
+        JobResult::Fail(code) => write_signed(alloc, "fail", i64::from(code), into),
+        JobResult::NoMemory => append(b"nomemory", into),
+    }
+}
+
+/// Appends a word, the number of what ended, and how it ended.
+fn write_job_end(
+    alloc: Global,
+    word: &str,
+    number: u64,
+    ended: JobResult,
+    into: &mut Vec<u8>,
+) -> Result<(), NoMemory>
+    ensures { OnOk result (into.new.items ≡ into.old.items ++ texts.job_end_text word.now number ended) }
+{
+    write_number(alloc, word, number, into)?;
+    append(b" ", into)?;
+    write_job_result(alloc, ended, into)
+}
+
+/// Appends how the starts of a deployment ended.
+fn write_done_result(alloc: Global, ended: DoneResult, into: &mut Vec<u8>) -> Result<(), NoMemory>
+    ensures { OnOk result (into.new.items ≡ into.old.items ++ texts.done_result_text ended) }
+{
+    match ended {
+        DoneResult::Ok => append(b"ok", into),
+        DoneResult::Fail(code) => write_signed(alloc, "fail", i64::from(code), into),
+        DoneResult::NoMemory => append(b"nomemory", into),
+    }
+}
+
+fn write_deploy_end(
+    alloc: Global,
+    number: u64,
+    ended: DoneResult,
+    into: &mut Vec<u8>,
+) -> Result<(), NoMemory>
+    ensures { OnOk result (into.new.items ≡ into.old.items ++ texts.deploy_end_text number ended) }
+{
+    write_number(alloc, "deployend", number, into)?;
+    append(b" ", into)?;
+    write_done_result(alloc, ended, into)
+}
+
+fn write_connected(
+    alloc: Global,
+    server: ServerId,
+    at: EntryNo,
+    into: &mut Vec<u8>,
+) -> Result<(), NoMemory>
+    ensures { OnOk result (into.new.items ≡ into.old.items ++ texts.task_text (Task.Connected server at)) }
+{
+    let text = format!(in alloc; "connected {} {}", server.0.0, at.0)?;
+    append(text.as_bytes(), into)
+}
+
+/// Appends a task that says no more than what it is about.
+fn write_named_task(alloc: Global, task: &Task, into: &mut Vec<u8>) -> Result<(), NoMemory>
+    requires { IsTrue (groups.names_alone task.now) }
+    ensures { OnOk result (into.new.items ≡ into.old.items ++ texts.task_text task.now) }
+{
+    match task {
+        Task::Start(context) => write_context(alloc, "start", *context, into),
+        Task::Fire(timer) => write_number(alloc, "fire", timer.0.0, into),
+        Task::Run(queued) => write_number(alloc, "run", queued.0.0, into),
+        Task::Job(queued) => write_number(alloc, "job", queued.0.0, into),
+        Task::UndeployEnd(deployment) => {
+            write_number(alloc, "undeployend", deployment.0.0, into)
+        }
+        Task::Stop(context) => write_context(alloc, "stop", *context, into),
+        _ => unreachable!(),
+    }
+}
+
 fn write_task(alloc: Global, task: &Task, into: &mut Vec<u8>) -> Result<(), NoMemory>
     ensures { OnOk result (into.new.items ≡ into.old.items ++ texts.task_text task.now) }
 {
     match task {
         Task::Deliver { consumer, message } => write_delivery(alloc, *consumer, message, into),
         Task::Outcome { request, outcome } => write_outcome(alloc, *request, outcome, into),
+        Task::JobDone {
+            queued,
+            result: ended,
+        } => write_job_end(alloc, "jobdone", queued.0.0, *ended, into),
+        Task::Connected(server, at) => write_connected(alloc, *server, *at, into),
+        Task::PromiseEnd {
+            awaited: _,
+            promise,
+            result: ended,
+        } => write_job_end(alloc, "promiseend", promise.0.0, *ended, into),
+        Task::DeployEnd {
+            deployment,
+            result: ended,
+        } => write_deploy_end(alloc, deployment.0.0, *ended, into),
+        _ => write_named_task(alloc, task, into),
     }
 }
 
-fn write_not_yours(alloc: Global, owner: Owner, into: &mut Vec<u8>) -> Result<(), NoMemory>
-    ensures { OnOk result (into.new.items ≡ into.old.items ++ texts.refusal_text (Refusal.NotYours owner)) }
+/// Appends the frame, with the length of its JSON before it.
+fn write_frame(alloc: Global, frame: &OutFrame, into: &mut Vec<u8>) -> Result<(), NoMemory>
+    ensures { OnOk result (into.new.items ≡ into.old.items ++ texts.outgoing_text frame.now) }
 {
-    match owner {
-        Owner::Pass(pass) => write_number(alloc, "refused 4 not yours pass", pass.0, into),
-        Owner::Context(context) => {
-            append(b"refused 4 not yours ", into)?;
-            write_context(alloc, context, into)
-        }
+    let mut json = Vec::new(alloc);
+    write_json(alloc, frame, &mut json)?;
+    write_number(alloc, "frame", json.len() as u64, into)?;
+    append(b" ", into)?;
+    append(&json, into)
+}
+
+fn write_accepted(
+    alloc: Global,
+    at: EntryNo,
+    server: ServerId,
+    into: &mut Vec<u8>,
+) -> Result<(), NoMemory>
+    ensures { OnOk result (into.new.items ≡ into.old.items ++ texts.reply_text at (Reply.Accepted server)) }
+{
+    let text = format!(in alloc; "accepted {} by {}", at.0, server.0.0)?;
+    append(text.as_bytes(), into)
+}
+
+/// Appends the name of what was made.
+fn write_made(alloc: Global, at: EntryNo, reply: &Reply, into: &mut Vec<u8>) -> Result<(), NoMemory>
+    requires { IsTrue (groups.names_made reply.now) }
+    ensures { OnOk result (into.new.items ≡ into.old.items ++ texts.reply_text at reply.now) }
+{
+    match reply {
+        Reply::Pool(pool) => write_number(alloc, "pool", pool.0.0, into),
+        Reply::Deployment(deployment) => write_number(alloc, "deployment", deployment.0.0, into),
+        Reply::Consumer(consumer) => write_number(alloc, "consumer", consumer.0.0, into),
+        Reply::Timer(timer) => write_number(alloc, "timer", timer.0.0, into),
+        Reply::Queued(queued) => write_number(alloc, "queued", queued.0.0, into),
+        Reply::Promise(promise) => write_number(alloc, "promise", promise.0.0, into),
+        Reply::Codec(codec) => write_number(alloc, "codec", codec.0.0, into),
+        Reply::Rule(rule) => write_number(alloc, "rule", rule.0.0, into),
+        _ => unreachable!(),
     }
 }
 
-fn write_refusal(alloc: Global, refusal: Refusal, into: &mut Vec<u8>) -> Result<(), NoMemory>
-    ensures { OnOk result (into.new.items ≡ into.old.items ++ texts.refusal_text refusal) }
+/// Appends a reply that is no more than a word, or a word and a number.
+fn write_short(
+    alloc: Global,
+    at: EntryNo,
+    reply: &Reply,
+    into: &mut Vec<u8>,
+) -> Result<(), NoMemory>
+    requires { IsTrue (groups.is_short reply.now) }
+    ensures { OnOk result (into.new.items ≡ into.old.items ++ texts.reply_text at reply.now) }
 {
-    match refusal {
-        Refusal::NoContext => append(b"refused 1 no context", into),
-        Refusal::NoConsumer => append(b"refused 3 no consumer", into),
-        Refusal::NotYours(owner) => write_not_yours(alloc, owner, into),
-        Refusal::NotHolding => append(b"refused 5 not holding", into),
-        Refusal::Holding(entry) => write_number(alloc, "refused 6 holding", entry.0, into),
-        Refusal::NoLane => append(b"refused 8 no lane", into),
-        Refusal::BadAddress => append(b"refused 9 bad address", into),
-        Refusal::TooLarge(limit) => {
-            write_number(alloc, "refused 10 too large", u64::from(limit), into)
-        }
-        Refusal::NoMessage => append(b"refused 11 no message", into),
-        Refusal::NotRequest => append(b"refused 12 not request", into),
-        Refusal::Late(entry) => write_number(alloc, "refused 13 late", entry.0, into),
-        Refusal::BadCount => append(b"refused 16 bad count", into),
-        Refusal::BadDelay => append(b"refused 17 bad delay", into),
-        Refusal::NoCodec => append(b"refused 19 no codec", into),
-        Refusal::CodecTaken(entry) => {
-            write_number(alloc, "refused 20 codec taken", entry.0, into)
-        }
-        Refusal::NoRule => append(b"refused 21 no rule", into),
-        Refusal::Spent => append(b"refused 30 spent", into),
+    match reply {
+        Reply::Connection(conn) => write_number(alloc, "connection", conn.0.0, into),
+        Reply::Server(server) => write_number(alloc, "server", server.0.0, into),
+        Reply::Fired(count) => write_number(alloc, "fired", *count, into),
+        Reply::NoFrame => append(b"no frame", into),
+        Reply::Idle => append(b"idle", into),
+        Reply::Stopped => append(b"stopped", into),
+        Reply::Done => append(b"ok", into),
+        _ => write_made(alloc, at, reply, into),
     }
 }
 
@@ -250,18 +352,15 @@ fn write_line(alloc: Global, at: EntryNo, reply: &Reply, into: &mut Vec<u8>) -> 
 {
     match reply {
         Reply::Pass(pass) => write_number(alloc, "pass", pass.0, into),
-        Reply::Context(context) => write_context(alloc, *context, into),
-        Reply::Consumer(consumer) => write_number(alloc, "consumer", consumer.0.0, into),
+        Reply::Context(context) => write_context(alloc, "context", *context, into),
         Reply::Sent(to) => write_message(alloc, "sent", at, *to, into),
         Reply::Published(consumers) => write_published(alloc, at, consumers, into),
         Reply::Asked(to) => write_message(alloc, "asked", at, *to, into),
-        Reply::Codec(codec) => write_number(alloc, "codec", codec.0.0, into),
-        Reply::Rule(rule) => write_number(alloc, "rule", rule.0.0, into),
+        Reply::Accepted(server) => write_accepted(alloc, at, *server, into),
+        Reply::Frame(frame) => write_frame(alloc, frame, into),
         Reply::Task(task) => write_task(alloc, task, into),
-        Reply::Idle => append(b"idle", into),
-        Reply::Done => append(b"ok", into),
-        Reply::Fired(count) => write_number(alloc, "fired", *count, into),
         Reply::Refused(refusal) => write_refusal(alloc, *refusal, into),
+        _ => write_short(alloc, at, reply, into),
     }
 }
 

@@ -7,6 +7,7 @@ use Rattle.vx_data.specs.declared.ids.PassNo.{PassNo}
 use Rattle.vx_call.specs.declared.call.Call.{Call}
 use Rattle.vx_call.specs.declared.reply.Reply.{Reply}
 use Rattle.vx_call.specs.declared.history.Traced.{Traced}
+use Rattle.vx_call.specs.Effects.{marked}
 use Rattle.vx_call.specs.History.{plain_entry}
 use Rattle.vx_call.specs.Refusals.{is_spent}
 use Rattle.vx_call.specs.Machine.{answer}
@@ -17,7 +18,7 @@ use Rattle.vx_reply_text.specs.Replies.{reply_line, text_from, text}
 use Rattle.vx_line.specs.declared.command.Command.{Command}
 use Rattle.vx_script.specs.Lines.{AreThere}
 use Rattle.vx_script.specs.Playing.{history_from, history_of}
-use Rattle.vx_script.proofs.Counts.{not_spent, passes_more, passes_none}
+use Rattle.vx_script.proofs.Counts.{next, not_spent, passes_more, passes_none}
 
 -- A hub stands for a history from which the rest of all calls goes on, and the text of that history was written.
 pub record Goes (Stands : List Traced → Type 0) (held held' : Option (List ℕ)) (at : ℕ) (rest all : List Command) : Type 0 where
@@ -45,10 +46,10 @@ begins_front all a b p = (b ++ p.0, p.1 ∙ append_assoc a b p.0)
 
 -- a call adds its line to the text, or nothing where the history is spent
 text_extended : (all : List ℕ) (h : List Traced) (pass : PassNo) (call : Call) (reply : Reply) (spent : Bool) →
-    Begins all (text (cond spent h (h ++ plain_entry pass call reply ∷ []))) → Begins all (text h)
+    Begins all (text (cond spent h (h ++ plain_entry pass call reply (marked h pass call reply) ∷ []))) → Begins all (text h)
 text_extended all h pass call reply true p = p
 text_extended all h pass call reply false p =
-    begins_front all (text h) (reply_line (record { 0 = length h }) reply) (subst (Begins all) (text_push h (plain_entry pass call reply)) p)
+    begins_front all (text h) (reply_line (record { 0 = length h }) reply) (subst (Begins all) (text_push h (plain_entry pass call reply (marked h pass call reply))) p)
 
 pub text_begins : (h : List Traced) (cs : List Command) → Begins (text (history_from h cs)) (text h)
 text_begins h [] = begins_same (text h)
@@ -56,11 +57,11 @@ text_begins h (c ∷ cs) =
     text_extended (text (history_from h (c ∷ cs))) h c.pass c.call (answer h c.pass c.call) (is_spent h) (text_begins (played h c.pass c.call) cs)
 
 -- below its limit a history goes on
-pub played_more : (h : List Traced) (pass : PassNo) (call : Call) → length h < 2 ^ 48 → played h pass call ≡ h ++ plain_entry pass call (answer h pass call) ∷ []
-played_more h pass call few = ap (λ spent. cond spent h (h ++ plain_entry pass call (answer h pass call) ∷ [])) (not_spent h few)
+pub played_more : (h : List Traced) (pass : PassNo) (call : Call) → length h < 2 ^ 48 → played h pass call ≡ h ++ next h pass call ∷ []
+played_more h pass call few = ap (λ spent. cond spent h (h ++ next h pass call ∷ [])) (not_spent h few)
 
 pub played_text : (h : List Traced) (pass : PassNo) (call : Call) → length h < 2 ^ 48 → text (played h pass call) ≡ text h ++ reply_line (record { 0 = length h }) (answer h pass call)
-played_text h pass call few = ap text (played_more h pass call few) ∙ text_push h (plain_entry pass call (answer h pass call))
+played_text h pass call few = ap text (played_more h pass call few) ∙ text_push h (next h pass call)
 
 begins_inner : (all a line front : List ℕ) → Begins all (a ++ line) → Begins line front → Begins all (a ++ front)
 begins_inner all a line front p q =
@@ -93,7 +94,7 @@ one_more Stands Stands' a b c at command rest all g few stands f =
       goes_on = g.goes_on;
       written = rw (played_text h command.pass command.call small) (Appends-trans a b c (text h) (reply_line (record { 0 = length h }) (answer h command.pass command.call)) g.written line);
       there = subst (λ (v : ℕ). AreThere v rest) (sym (ap passes (played_more h command.pass command.call small) ∙ passes_more h command.pass command.call small)) g.there.1;
-      count = omega (arith, g.count, ap length (played_more h command.pass command.call small), length-append h (plain_entry command.pass command.call (answer h command.pass command.call) ∷ []));
+      count = omega (arith, g.count, ap length (played_more h command.pass command.call small), length-append h (next h command.pass command.call ∷ []));
     }
 
 -- Nothing is left: all is written.

@@ -6,31 +6,38 @@ use Rattle.std.specs.Str.Lines.{lines, lines_of_parts}
 use Rattle.std.proofs.lemmas.List.Sums.{count_by-le-length}
 use Rattle.std.proofs.lemmas.List.Splits.{length-slice_split}
 use Rattle.vx_call.specs.declared.history.Traced.{Traced}
-use Rattle.vx_call.specs.History.{plain_entry}
+use Rattle.vx_call.specs.Built.{is_built, AreBuilt}
 use Rattle.vx_call.specs.Passes.{passes}
 use Rattle.vx_call.specs.Machine.{answer, IsLegal}
+use Rattle.vx_call.proofs.Built.{built_more, no_mark_made}
 use Rattle.vx_call.proofs.Legal.{legal_none, legal_more}
+use Rattle.vx_hub.proofs.States.{no_states}
 use Rattle.vx_line.specs.declared.command.Command.{Command}
 use Rattle.vx_script.specs.declared.limit.TheConstants.{LIMIT}
 use Rattle.vx_line.specs.Reading.{said_at}
 use Rattle.vx_line.specs.Reasons.{reason}
-use Rattle.vx_script.specs.Lines.{Bad, passes_after, with_front, with_line, commands_from, commands_of, AreThere}
+use Rattle.vx_script.specs.Lines.{Bad, passes_after, with_front, with_line, commands_from, commands_of, AreThere, AreBuiltCalls}
 use Rattle.vx_script.specs.Playing.{history_from, history_of}
-use Rattle.vx_script.proofs.Counts.{passes_more, passes_none}
+use Rattle.vx_script.proofs.BuiltCalls.{script_built}
+use Rattle.vx_script.proofs.Counts.{next, passes_more, passes_none}
 use Rattle.vx_script.proofs.Histories.{played_more}
 use Rattle.vx_script.proofs.Theres.{script_there}
 
-played_legal : (h : List Traced) (c : Command) → IsLegal h → length h < 2 ^ 48 → c.pass.0 < passes h → IsLegal (h ++ plain_entry c.pass c.call (answer h c.pass c.call) ∷ [])
-played_legal h c legal few known = legal_more h (plain_entry c.pass c.call (answer h c.pass c.call)) legal (record { known = known; answered = refl; room = few; stateless = refl })
+played_legal : (h : List Traced) (c : Command) → IsLegal h → AreBuilt h → is_built c.call ≡ true → length h < 2 ^ 48 → c.pass.0 < passes h → IsLegal (h ++ next h c.pass c.call ∷ [])
+played_legal h c legal built is few known =
+    legal_more h (next h c.pass c.call) legal (record { known = known; answered = refl; room = few; stated = sym (no_states h c.pass c.call built is); mark = refl })
 
-legal_after : (h : List Traced) (cs : List Command) → IsLegal h → length h + length cs ≤ 2 ^ 48 → AreThere (passes h) cs → IsLegal (history_from h cs)
-legal_after h [] legal few there = legal
-legal_after h (c ∷ cs) legal few there =
+played_built : (h : List Traced) (c : Command) → AreBuilt h → is_built c.call ≡ true → AreBuilt (h ++ next h c.pass c.call ∷ [])
+played_built h c built is = built_more h (next h c.pass c.call) built (record { call = is; mark = no_mark_made h c.pass c.call (answer h c.pass c.call) built is })
+
+legal_after : (h : List Traced) (cs : List Command) → IsLegal h → AreBuilt h → length h + length cs ≤ 2 ^ 48 → AreThere (passes h) cs → AreBuiltCalls cs → IsLegal (history_from h cs)
+legal_after h [] legal built few there are = legal
+legal_after h (c ∷ cs) legal built few there are =
     let small : length h < 2 ^ 48 = omega arith in
-    let longer = h ++ plain_entry c.pass c.call (answer h c.pass c.call) ∷ [] in
+    let longer = h ++ next h c.pass c.call ∷ [] in
     let more : AreThere (passes longer) cs = subst (λ (v : ℕ). AreThere v cs) (sym (passes_more h c.pass c.call small)) there.1 in
     let rest : IsLegal (history_from longer cs) =
-    legal_after longer cs (played_legal h c legal small there.0) (omega (arith, length-append h (plain_entry c.pass c.call (answer h c.pass c.call) ∷ []))) more in
+    legal_after longer cs (played_legal h c legal built are.0 small there.0) (played_built h c built are.0) (omega (arith, length-append h (next h c.pass c.call ∷ []))) more are.1 in
     subst (λ (v : List Traced). IsLegal (history_from v cs)) (sym (played_more h c.pass c.call small)) rest
 
 one_at_most : (said : Option Command) → length (option_to_list said) ≤ 1
@@ -71,4 +78,5 @@ lines_few bytes = omega (arith, parts_few (slice_split (λ b. b == 10) bytes), l
 pub legal_run : (bytes : List ℕ) (commands : List Command) → length bytes ≤ LIMIT → commands_of bytes ≡ Ok commands → IsLegal (history_of commands)
 unfolding commands_of
 legal_run bytes commands few made =
-    legal_after [] commands legal_none (omega (arith, commands_few 1 1 (lines bytes) commands made, lines_few bytes)) (subst (λ (v : ℕ). AreThere v commands) (sym passes_none) (script_there bytes commands made))
+    legal_after [] commands legal_none tt (omega (arith, commands_few 1 1 (lines bytes) commands made, lines_few bytes)) (subst (λ (v : ℕ). AreThere v commands) (sym passes_none) (script_there bytes commands made))
+    (script_built bytes commands made)

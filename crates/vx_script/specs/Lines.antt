@@ -1,9 +1,11 @@
 -- The calls of all lines, or the first line that is in no form.
-use Rattle.std.specs.Prelude.{◌≡◌, ℕ, ◌+◌, ◌<◌, List, [], ◌∷◌, ◌++◌, Option, Some, None, Result, Ok, Err, ◌⊎◌}
+use Rattle.std.specs.Prelude.{◌≡◌, ℕ, ◌+◌, ◌<◌, true, List, [], ◌∷◌, ◌++◌, Option, Some, None, Result, Ok, Err, ◌⊎◌}
+use Rattle.std.specs.List.{AllByRecursion}
 use Rattle.std.specs.Option.{option_to_list}
 use Rattle.std.specs.Str.Lines as text
 use Rattle.vx_call.specs.declared.call.Call.{Call}
 use Rattle.vx_call.specs.declared.call.Call.TheVariants as calls
+use Rattle.vx_call.specs.Built.{is_built}
 use Rattle.vx_line.specs.declared.command.Command.{Command}
 use Rattle.vx_line.specs.declared.fault.LineWhy.{LineWhy}
 use Rattle.vx_words.specs.declared.fault.LineFault.{LineFault}
@@ -70,6 +72,10 @@ pub record Adds (said : Option (Option Command)) (old new : List Command) (befor
 abbrev pub AreThere : ℕ → List Command → Type 0
 AreThere passes [] = Unit {0}
 AreThere passes (command ∷ commands) = (command.pass.0 < passes) × AreThere (passes_with passes command.call) commands
+
+-- Each call is one that the hub makes so far.
+abbrev pub AreBuiltCalls : List Command → Type 0
+AreBuiltCalls = AllByRecursion (λ (command : Command). is_built command.call ≡ true)
 
 -- ## The same in the words of the grammar
 

@@ -2,6 +2,7 @@
 ghost use Rattle.std.specs.Prelude.{◌≡◌, ◌≤◌, ◌<◌, List, [], length, IfOk, OnOk, OnErr, IsErrOf, IsTrue};
 ghost use Rattle.std.specs.Io.KnownBytes.{Appends};
 ghost use Rattle.vx_call.specs.declared.history.Traced.{Traced};
+ghost use Rattle.vx_call.specs.Built.{is_built};
 ghost use Rattle.vx_call.specs.Machine.{answer};
 ghost use Rattle.vx_call.specs.Passes.{passes};
 ghost use Rattle.vx_call.specs.Plain.{is_plain};
@@ -9,7 +10,7 @@ ghost use Rattle.vx_call.specs.Runs.{played};
 ghost use Rattle.vx_hub.specs.Stands.{StandsFor, Meets, Keeps};
 ghost use Rattle.vx_io.specs.Faults.{Rose};
 ghost use Rattle.vx_io.specs.Writing.{AppendsFront};
-ghost use Rattle.vx_script.specs.Lines.{AreThere};
+ghost use Rattle.vx_script.specs.Lines.{AreThere, AreBuiltCalls};
 ghost use Rattle.vx_script.specs.Playing.{history_of};
 ghost use Rattle.vx_reply_text.specs.Replies.{reply_line, text};
 
@@ -32,7 +33,8 @@ fn finish(hub: &mut Hub, pass: PassNo, end: End) -> Reply
 }
 
 fn step(hub: &mut Hub, pass: PassNo, call: Call) -> Result<Reply, NoMemory>
-    requires { IsTrue (is_plain call) }
+    requires plain { IsTrue (is_plain call) }
+    requires built { IsTrue (is_built call) }
     ensures reply { IfOk result (λ reply. Meets hub.old hub.new pass call reply) }
     ensures err { OnErr result (Keeps hub.old hub.new) }
 {
@@ -44,6 +46,7 @@ fn step(hub: &mut Hub, pass: PassNo, call: Call) -> Result<Reply, NoMemory>
 
 /// Makes a call of a pass, and gives the reply.
 fn make(hub: &mut Hub, pass: PassNo, call: Call) -> Result<Reply, NoMemory>
+    requires { IsTrue (is_built call) }
     ensures reply { IfOk result (λ reply. Meets hub.old hub.new pass call reply) }
     ensures err { OnErr result (Keeps hub.old hub.new) }
 {
@@ -87,6 +90,7 @@ fn make_one<K: Sink>(
     command: Command,
     sink: &mut K,
 ) -> Result<(), SinkFault>
+    requires { IsTrue (is_built command.call) }
     ensures goes { OnOk result ((history : List Traced) → StandsFor hub.old history → command.pass.0 < passes history → StandsFor hub.new (played history command.pass command.call)) }
     ensures written { OnOk result ((history : List Traced) → StandsFor hub.old history → command.pass.0 < passes history → Appends (K.held sink.old) (K.held sink.new) (reply_line at (answer history command.pass command.call))) }
     ensures err { OnErr result ((history : List Traced) → StandsFor hub.old history → command.pass.0 < passes history → AppendsFront (K.held sink.old) (K.held sink.new) (reply_line at (answer history command.pass command.call))) }
@@ -114,6 +118,7 @@ fn make_all<K: Sink>(
     requires new { StandsFor hub.old [] }
     requires few { length commands.items ≤ LIMIT }
     requires there { AreThere 1 commands.items }
+    requires built { AreBuiltCalls commands.items }
     ensures ok { OnOk result (Appends (K.held sink.old) (K.held sink.new) (text (history_of commands.items))) }
     ensures err { OnErr result (AppendsFront (K.held sink.old) (K.held sink.new) (text (history_of commands.items))) }
     ensures later { K.faults sink.old ≤ K.faults sink.new }
@@ -131,6 +136,7 @@ fn make_all<K: Sink>(
 pub fn play<K: Sink>(alloc: Global, commands: Vec<Command>, sink: &mut K) -> Result<(), SinkFault>
     requires few { length commands.items ≤ LIMIT }
     requires there { AreThere 1 commands.items }
+    requires built { AreBuiltCalls commands.items }
     ensures ok { OnOk result (Appends (K.held sink.old) (K.held sink.new) (text (history_of commands.items))) }
     ensures err { OnErr result (AppendsFront (K.held sink.old) (K.held sink.new) (text (history_of commands.items))) }
     ensures later { K.faults sink.old ≤ K.faults sink.new }

@@ -1,5 +1,5 @@
-//! Tests of the stores: consumers at addresses, requests, timers, flows, codecs and rules, contexts. Each call that takes
-//! memory is run once with its answer.
+//! Tests of the stores: consumers at addresses, servers at places, deployments, requests, timers, flows, codecs and
+//! rules, contexts. Each call that takes memory is run once with its answer.
 #![tactic(auto)]
 
 #[cfg(test)]
@@ -15,4 +15,8 @@ mod rings;
 #[cfg(test)]
 mod rules;
 #[cfg(test)]
+mod servers;
+#[cfg(test)]
 mod timers;
+#[cfg(test)]
+mod trees;

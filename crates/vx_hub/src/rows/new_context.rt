@@ -1,15 +1,17 @@
 ghost use Rattle.std.specs.Prelude.{◌≡◌, List, IfOk, IfErr, OnErr};
 ghost use Rattle.vx_call.specs.declared.history.Traced.{Traced};
+ghost use Rattle.vx_call.specs.Built.{AreBuilt};
 ghost use Rattle.vx_context.specs.Stands.{ContextsStand, ContextsFollow, IsNext};
+ghost use Rattle.vx_hub.specs.Named.{NameContexts};
 
 use vx_call::{Call, Reply, Unmade};
 use vx_context::{Contexts, already_holding};
 use vx_data::{ContextId, EntryNo, PassNo};
-use vx_message::OutsideContext;
+use vx_message::{Context, Lane};
 
 /// Makes an outside context of the pass.
 pub fn new_context(contexts: &mut Contexts, at: EntryNo, pass: PassNo) -> Result<Reply, Unmade>
-    ensures ok { IfOk result (λ reply. (history : List Traced) → ContextsStand contexts.old history → IsNext at history → ContextsFollow contexts.new history pass Call.NewContext reply) }
+    ensures ok { IfOk result (λ reply. (history : List Traced) → ContextsStand contexts.old history → AreBuilt history → NameContexts history → IsNext at history → ContextsFollow contexts.new history pass Call.NewContext reply) }
     ensures room { contexts.new.room ≡ contexts.old.room }
     ensures err { OnErr result (contexts.new ≡ contexts.old) }
     ensures back { IfErr result (λ unmade. unmade.call ≡ Call.NewContext) }
@@ -21,7 +23,12 @@ pub fn new_context(contexts: &mut Contexts, at: EntryNo, pass: PassNo) -> Result
         entry: at,
         instance: 0,
     };
-    match contexts.add(OutsideContext { id, maker: pass }) {
+    match contexts.add(Context {
+        id,
+        maker: Some(pass),
+        lane: Lane::Own(id),
+        jobs: Lane::Pool,
+    }) {
         Ok(()) => Ok(Reply::Context(id)),
         Err(_) => Err(Unmade {
             call: Call::NewContext,

@@ -74,7 +74,7 @@ returns-clause-items c =
     let all : length c.loop-place.yielded ≡ length freed = end.1 ∙ length-enumerate_from 0 freed in
     let ready : c.saturating_sub-ready.result ≡ length (filter (is_for c.args.consumer) tasks) - c.args.held = c.saturating_sub-ready.ensures ∙ ap (λ n. n - c.args.held) c.message_count.ensures in
     c.loop-place.invariant.items
-    ∙ ap (λ made. record c.args.contexts.now { waiting = c.args.contexts.now.waiting ++ message_items c.args.at c.args.context 0 made; room = c.loop-place.contexts.room })
+    ∙ ap (λ made. record c.args.contexts.now { waiting = c.args.contexts.now.waiting ++ message_items c.args.contexts.now.made c.args.at c.args.context 0 made; room = c.loop-place.contexts.room })
     (take_all (length c.loop-place.yielded) freed (omega (arith, all)) ∙ ap (λ n. take c.args.count (drop n (filter (is_for c.args.consumer) tasks))) ready)
 
 pub returns-clause-room : goal.returns-clause-room

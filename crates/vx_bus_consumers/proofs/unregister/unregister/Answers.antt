@@ -1,4 +1,4 @@
-use Rattle.std.proofs.Common.{ap, sym, ◌∙◌}
+use Rattle.std.proofs.Common.{refl, ap, sym, ◌∙◌}
 use Rattle.vx_call.specs.declared.call.Call.TheVariants as calls
 use Rattle.vx_call.specs.declared.reply.Reply.TheVariants as replies
 use Rattle.vx_call.specs.Refusals.{unless_refused}
@@ -8,8 +8,8 @@ use Rattle.vx_bus_consumers.proofs.unregister.unregister.Goals as goal
 
 pub returns-in-Some-clause-follows : goal.returns-in-Some-clause-follows
 returns-in-Some-clause-follows c = λ history stands is_next.
-    follows_refused c.args.contexts.now c.args.timers.now c.args.bus.now history c.args.pass (calls.Unregister c.args.consumer) c.in-Some.refusal stands
-    (ap (λ refusal. unless_refused refusal replies.Done) (c.in-Some.ensures history stands.contexts stands.bus))
+    follows_refused c.args.contexts.now c.args.timers.now c.args.bus.now history c.args.pass (calls.Unregister c.args.consumer) c.in-Some.refusal refl stands
+    (ap (λ refusal. unless_refused refusal replies.Done) (c.in-Some.ensures history stands.built stands.contexts stands.bus))
 
 -- what the calls on the bus made of it
 steps : (c : goal.After-end_lost) → BusSteps c.args.bus.now c.remove.new.self c.fail_lost.new.bus c.end_lost.new.self c.args.consumer c.args.at
@@ -27,7 +27,7 @@ pub returns-clause-follows : goal.returns-clause-follows
 returns-clause-follows c = λ history stands is_next.
     unregisters c.args.contexts.now c.cancel.new.self c.fail_lost.new.contexts c.args.timers.now c.fail_lost.new.timers c.args.bus.now c.remove.new.self c.fail_lost.new.bus c.end_lost.new.self
     history c.args.at c.args.pass c.args.consumer stands is_next
-    (sym (c.consumer_refusal.ensures history stands.contexts stands.bus) ∙ c.in_default.is)
+    (sym (c.consumer_refusal.ensures history stands.built stands.contexts stands.bus) ∙ c.in_default.is)
     c.cancel.ensures.left c.fail_lost.ensures.items c.fail_lost.ensures.timers
     (steps c)
 

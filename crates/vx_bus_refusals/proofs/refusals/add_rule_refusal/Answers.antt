@@ -1,6 +1,15 @@
-use Rattle.std.proofs.Common.{sym, ◌∙◌, arith, ◌+◌}
-use Rattle.vx_bus_refusals.proofs.Chains.{none_of_first, none_of_second, none_over}
+use Rattle.std.proofs.Common.{ap, sym, ◌∙◌, arith, ◌+◌, length}
+use Rattle.vx_message.specs.Rules.{rules_of}
+use Rattle.vx_call.specs.Refusals.{over}
+use Rattle.vx_call.proofs.Built.{holder_open}
+use Rattle.vx_bus_refusals.proofs.Chains.{first, last, none_of_first, none_of_second, none_over, none_before}
 use Rattle.vx_bus_refusals.proofs.refusals.add_rule_refusal.Goals as goal
+
+pub returns-clause-refusal : goal.returns-clause-refusal
+returns-clause-refusal c = λ history pass built bus.
+    last (first (c.over.ensures ∙ ap (over 1024) c.added_bytes.ensures)) c.or.ensures
+    (c.over-2.ensures ∙ ap (λ n. over 64 (n + 1)) (c.rule_count.ensures ∙ ap (λ rules. length (rules_of c.args.side rules)) bus.rules))
+    ∙ none_before _ (holder_open history pass built)
 
 pub returns-clause-few : goal.returns-clause-few
 returns-clause-few c = λ none.

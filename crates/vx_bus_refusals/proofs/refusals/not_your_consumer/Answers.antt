@@ -8,7 +8,7 @@ use Rattle.vx_bus_refusals.proofs.refusals.not_your_consumer.Goals as goal
 
 pub returns-in-Some : goal.returns-in-Some
 returns-in-Some c = λ history contexts stands.
-    c.not_your_context.ensures history contexts
+    c.not_your_owner.ensures history contexts
     ∙ ap (λ (o : Option Handler). not_your_handler history c.args.pass (option_map (λ (h : Handler). h.consumer) o)) c.in-Some.ensures
     ∙ ap (not_your_handler history c.args.pass) (live_is c.args.bus.now history c.args.id stands)
 

@@ -10,7 +10,7 @@ invariant-loop-recipient l =
     record {
       contexts : l.contexts ≡ record l.initial.contexts { waiting = l.contexts.waiting; room = l.contexts.room };
       bus : l.bus ≡ record l.initial.bus { tasks = l.bus.tasks; room = l.bus.room };
-      items : l.contexts.waiting ++ parcel_items l.at l.place rest ≡ l.initial.contexts.waiting ++ parcel_items l.at 0 all;
+      items : l.contexts.waiting ++ parcel_items l.initial.contexts.made l.at l.place rest ≡ l.initial.contexts.waiting ++ parcel_items l.initial.contexts.made l.at 0 all;
       tasks : l.bus.tasks ++ map parcel_task rest ≡ l.initial.bus.tasks ++ map parcel_task all;
       place : l.place + ready_count rest ≡ ready_count all;
       items_room : l.initial.contexts.room + ready_count rest ≤ l.contexts.room + ready_count all;

@@ -1,6 +1,7 @@
-use Rattle.std.proofs.Common.{ap, sym, ◌∙◌}
+use Rattle.std.proofs.Common.{refl, ap, sym, ◌∙◌}
 use Rattle.vx_call.specs.declared.call.Call.TheVariants as calls
 use Rattle.vx_call.specs.declared.reply.Reply.TheVariants as replies
+use Rattle.vx_call.specs.declared.history.Deed.TheVariants as deeds
 use Rattle.vx_call.specs.Refusals.{unless_refused}
 use Rattle.vx_call.specs.Mailboxes.{accepting}
 use Rattle.vx_call.specs.Rows.{ids_of}
@@ -11,17 +12,17 @@ use Rattle.vx_bus_send.proofs.publish.publish.Goals as goal
 pub returns-in-Some-clause-ok : goal.returns-in-Some-clause-ok
 returns-in-Some-clause-ok c = λ history stands is_next.
     let call = calls.Publish c.args.address c.args.body c.args.options in
-    follows_refused c.args.contexts.now c.args.timers.now c.args.bus.now history c.args.pass call c.in-Some.refusal stands
-    (ap (λ refusal. unless_refused refusal (replies.Published (ids_of (accepting history call)))) (c.in-Some.ensures history stands.bus))
+    follows_refused c.args.contexts.now c.args.timers.now c.args.bus.now history c.args.pass call c.in-Some.refusal refl stands
+    (ap (λ refusal. unless_refused refusal (replies.Published (ids_of (accepting history call deeds.Nothing)))) (c.in-Some.ensures history c.args.pass stands.built stands.bus))
 
 pub publish_on-requires-clause-deep : goal.publish_on-requires-clause-deep
 publish_on-requires-clause-deep c =
-    (send_small c.args.contexts.now c.args.timers.now c.args.bus.now c.args.address c.args.body c.args.options c.requires.one (λ history bus. sym (c.send_refusal.ensures history bus) ∙ c.in_default.is)).deep
+    (send_small c.args.contexts.now c.args.timers.now c.args.bus.now c.args.pass c.args.address c.args.body c.args.options c.requires.one (λ history built bus. sym (c.send_refusal.ensures history c.args.pass built bus) ∙ c.in_default.is)).deep
 
 pub publish_on-requires-clause-pairs : goal.publish_on-requires-clause-pairs
 publish_on-requires-clause-pairs c =
-    (send_small c.args.contexts.now c.args.timers.now c.args.bus.now c.args.address c.args.body c.args.options c.requires.one (λ history bus. sym (c.send_refusal.ensures history bus) ∙ c.in_default.is)).pairs
+    (send_small c.args.contexts.now c.args.timers.now c.args.bus.now c.args.pass c.args.address c.args.body c.args.options c.requires.one (λ history built bus. sym (c.send_refusal.ensures history c.args.pass built bus) ∙ c.in_default.is)).pairs
 
 pub publish_on-requires-clause-bytes : goal.publish_on-requires-clause-bytes
 publish_on-requires-clause-bytes c =
-    (send_small c.args.contexts.now c.args.timers.now c.args.bus.now c.args.address c.args.body c.args.options c.requires.one (λ history bus. sym (c.send_refusal.ensures history bus) ∙ c.in_default.is)).bytes
+    (send_small c.args.contexts.now c.args.timers.now c.args.bus.now c.args.pass c.args.address c.args.body c.args.options c.requires.one (λ history built bus. sym (c.send_refusal.ensures history c.args.pass built bus) ∙ c.in_default.is)).bytes

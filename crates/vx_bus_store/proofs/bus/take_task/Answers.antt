@@ -7,7 +7,7 @@ use Rattle.vx_bus_store.proofs.bus.take_task.Goals as goal
 pub unreachable-requires : goal.unreachable-requires
 unreachable-requires c =
     let gone = find_from_no_position (is_of_kind c.args.kind) c.args.tasks.now.items (sym c.place_of.ensures ∙ c.in-None.is) in
-    let e : true ≡ false = sym c.requires ∙ ap is_some gone in cc
+    let e : true ≡ false = sym c.requires.there ∙ ap is_some gone in cc
 
 pub returns-clause-task : goal.returns-clause-task
 returns-clause-task c =

@@ -22,9 +22,9 @@ small c = rw (← c.entries.ensures) c.if-entries-ge-LIMIT.false
 row : (c : goal.After-add) → Rows (old c) (new c) c.args.pass (calls.Finish c.args.end) (finished c.finish-ended.result)
 row c = λ history stands is_next.
     keeping_time c.self.inside.passes c.self.inside.now c.finish-ended.new.contexts c.self.inside.timers c.self.inside.bus history c.args.pass (calls.Finish c.args.end) (finished c.finish-ended.result) refl
-    stands.passes stands.now
+    stands.passes stands.now stands.named
     (leaving_bus c.finish-ended.new.contexts c.self.inside.timers c.self.inside.bus history c.args.pass (calls.Finish c.args.end) (finished c.finish-ended.result) refl
-    stands.stores.timers stands.stores.bus (c.finish-ended.ensures.follows history stands.stores.contexts))
+    stands.stores.built stands.stores.timers stands.stores.bus (c.finish-ended.ensures.follows history stands.stores.contexts stands.stores.built))
 
 pub invariant_of-self : goal.invariant_of-self
 invariant_of-self c = (
@@ -35,4 +35,4 @@ invariant_of-self c = (
 pub returns : goal.returns
 returns c =
     let P : HubStore → Type 0 = λ o. Meets o (new c) c.args.pass (calls.Finish c.args.end) (finished c.finish-ended.result) in
-    record { answered_as_the_machine = subst P c.self.view_is (meets (old c) (new c) c.args.pass (calls.Finish c.args.end) (finished c.finish-ended.result) (small c) (more c) (row c)) }
+    record { answered_as_the_machine = subst P c.self.view_is (meets (old c) (new c) c.args.pass (calls.Finish c.args.end) (finished c.finish-ended.result) refl (small c) (more c) (row c)) }

@@ -10,19 +10,23 @@ use Rattle.vx_call.specs.Contexts.{context_kind}
 use Rattle.vx_call.specs.Consumers.{consumer_kind, is_at}
 use Rattle.vx_call.specs.Choices.{choice_kind}
 use Rattle.vx_call.specs.Given.{given_kind}
-use Rattle.vx_call.specs.Requests.{open_kind, moment_kind, by_due}
+use Rattle.vx_call.specs.Pools.{pool_kind}
+use Rattle.vx_call.specs.Requests.{open_kind, by_due}
+use Rattle.vx_call.specs.Time.{moment_kind}
 use Rattle.vx_call.specs.Settled.{Settled, settled_kind}
 use Rattle.vx_call.specs.Codecs.{codec_kind}
 use Rattle.vx_call.specs.Rules.{rule_kind}
 use Rattle.vx_call.specs.Items.{item_kind, task_kind}
 use Rattle.vx_call.specs.Held.{held_kind}
 use Rattle.vx_call.specs.Rows.{ids_of}
+use Rattle.vx_call.proofs.Built.{settled_by_outcome}
 use Rattle.vx_call.proofs.Lasting.{lasting_none}
 use Rattle.vx_call.proofs.Legal.{legal_none}
 use Rattle.vx_context.specs.Stores.{ContextStore, item_of}
 use Rattle.vx_bus_store.specs.Stores.{handler_of, row_of, timer_of}
 use Rattle.vx_hub.specs.Stores.{HubStore}
 use Rattle.vx_hub.specs.Stands.{HubStands}
+use Rattle.vx_hub.proofs.Named.{none_named}
 use Rattle.vx_hub.proofs.hub.Hub.new.Goals as goal
 
 -- a hub with empty stores is that of the empty history
@@ -32,11 +36,14 @@ empty c = record {
   parts = record {
     passes = ap (λ ps. length ps + 1) (sym (lasting_none pass_kind));
     now = c.at.ensures ∙ ap (fold max 0) (sym (lasting_none moment_kind));
+    named = none_named;
     stores = record {
+      built = tt;
       contexts = record {
         made = ap (λ (s : ContextStore). s.made) c.new-2.ensures ∙ sym (lasting_none context_kind);
         held = ap (λ (s : ContextStore). s.held) c.new-2.ensures ∙ sym (lasting_none held_kind);
-        waiting = ap (λ (s : ContextStore). s.waiting) c.new-2.ensures ∙ ap (map item_of) (sym (lasting_none item_kind));
+        pools = ap (λ (s : ContextStore). s.pools) c.new-2.ensures ∙ sym (lasting_none pool_kind);
+        waiting = ap (λ (s : ContextStore). s.waiting) c.new-2.ensures ∙ ap (map (item_of [])) (sym (lasting_none item_kind));
       };
       timers = c.new-3.ensures ∙ ap (λ rs. map timer_of (by_due rs)) (sym (lasting_none open_kind));
       bus = record {
@@ -45,7 +52,7 @@ empty c = record {
         choices = λ a. c.new-4.ensures.choices a ∙ ap (count_by (bytes_eq a)) (sym (lasting_none choice_kind));
         tasks = c.new-4.ensures.tasks ∙ sym (lasting_none task_kind);
         opened = c.new-4.ensures.requests ∙ ap (map row_of) (sym (lasting_none open_kind));
-        ended = λ id. c.new-4.ensures.ended id ∙ ap (λ ss. option_map (λ (s : Settled). s.at) (find (λ (s : Settled). same_message id s.request) ss)) (sym (lasting_none settled_kind));
+        ended = λ id. c.new-4.ensures.ended id ∙ ap (λ ss. option_map (λ (s : Settled). s.at) (find (λ (s : Settled). same_message id s.request) ss)) (sym (lasting_none settled_kind)) ∙ sym (settled_by_outcome [] id tt);
         given = λ id. c.new-4.ensures.given id ∙ ap (λ gs. find (λ (g : Given). same_message id g.id) gs) (sym (lasting_none given_kind));
         codecs = c.new-4.ensures.codecs ∙ sym (lasting_none codec_kind);
         rules = c.new-4.ensures.rules ∙ sym (lasting_none rule_kind);

@@ -41,4 +41,4 @@ invariant_of-self-2 c = (of_history_more (old c) (new c) c.args.pass c.args.call
 pub returns-clause-answered_as_the_machine : goal.returns-clause-answered_as_the_machine
 returns-clause-answered_as_the_machine c =
     let P : HubStore → Type 0 = λ o. Meets o (new c) c.args.pass c.args.call c.in_ok-reply.reply in
-    subst P c.self.view_is (meets (old c) (new c) c.args.pass c.args.call c.in_ok-reply.reply (small c) (more c) (row c))
+    subst P c.self.view_is (meets (old c) (new c) c.args.pass c.args.call c.in_ok-reply.reply c.requires.built (small c) (more c) (row c))

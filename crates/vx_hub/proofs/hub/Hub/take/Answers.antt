@@ -26,7 +26,7 @@ small c = rw (← c.entries-at.ensures) c.if-at-ge-LIMIT.false
 row : (c : goal.After-add) → Rows (old c) (new c) c.args.pass (calls.Take c.args.lane) c.take-reply.result
 row c = λ history stands is_next.
     keeping_time c.self.inside.passes c.self.inside.now c.take-reply.new.contexts c.self.inside.timers c.take-reply.new.bus history c.args.pass (calls.Take c.args.lane) c.take-reply.result refl
-    stands.passes stands.now (c.take-reply.ensures.follows history stands.stores (c.entries-at.ensures ∙ is_next))
+    stands.passes stands.now stands.named (c.take-reply.ensures.follows history stands.stores stands.named (c.entries-at.ensures ∙ is_next))
 
 pub invariant_of-self : goal.invariant_of-self
 invariant_of-self c = (of_history_more (old c) (new c) c.args.pass (calls.Take c.args.lane) c.take-reply.result (more c) (row c) c.self.invariant.0, c.take-reply.ensures.places)
@@ -34,4 +34,4 @@ invariant_of-self c = (of_history_more (old c) (new c) c.args.pass (calls.Take c
 pub returns : goal.returns
 returns c =
     let P : HubStore → Type 0 = λ o. Meets o (new c) c.args.pass (calls.Take c.args.lane) c.take-reply.result in
-    record { answered_as_the_machine = subst P c.self.view_is (meets (old c) (new c) c.args.pass (calls.Take c.args.lane) c.take-reply.result (small c) (more c) (row c)) }
+    record { answered_as_the_machine = subst P c.self.view_is (meets (old c) (new c) c.args.pass (calls.Take c.args.lane) c.take-reply.result refl (small c) (more c) (row c)) }

@@ -1,7 +1,8 @@
 use Rattle.std.proofs.Common.{ℕ, ◌<◌, ◌^◌, length, refl, ap, sym, ◌∙◌, subst}
 use Rattle.vx_call.specs.declared.call.Call.TheVariants as calls
 use Rattle.vx_call.specs.declared.reply.Reply.TheVariants as replies
-use Rattle.vx_call.specs.History.{plain_entry}
+use Rattle.vx_call.specs.History.{plain_entry, no_mark}
+use Rattle.vx_call.proofs.Built.{no_mark_made}
 use Rattle.vx_call.proofs.Legal.{legal_more}
 use Rattle.vx_hub.specs.Stores.{HubStore}
 use Rattle.vx_hub.specs.Stands.{HubStands}
@@ -31,12 +32,19 @@ returns c = λ history stands.
     let here : HubStands (old c) history = subst Q (sym c.self.view_is) stands in
     let short : length history < 2 ^ 48 = subst P (c.entries.ensures ∙ entries_of (old c) history here) c.if-entries-ge-LIMIT.false in
     let reply = replies.Pass c.new_pass-number.result in
+    let built = here.parts.stores.built in
     let follows = row c history here.parts (entries_of (old c) history here) in
     let R : ℕ → Type 0 = λ n. c.args.pass.0 < n in
     let known = subst R (sym c.requires.1.parts.passes ∙ stands.parts.passes) c.requires.3 in (
       short,
       c.new_pass-number.ensures.made ∙ here.parts.passes,
       parts_more (old c) (new c) history c.args.pass calls.NewPass reply here c.add.ensures follows,
-      λ legal. legal_more history (plain_entry c.args.pass calls.NewPass reply) legal
-          (record { known = known; answered = row_answers history c.args.pass calls.NewPass reply short follows.answered; room = short; stateless = refl }),
+      λ legal. legal_more history (plain_entry c.args.pass calls.NewPass reply no_mark) legal
+          (record {
+            known = known;
+            answered = row_answers history c.args.pass calls.NewPass reply short built follows.answered;
+            room = short;
+            stated = refl;
+            mark = sym (no_mark_made history c.args.pass calls.NewPass reply built refl);
+          }),
     )

@@ -6,7 +6,7 @@ use Rattle.vx_data.specs.Tree.{object, no_members}
 use Rattle.vx_frame_write.specs.Outgoing.{of_type, message_members, send_members, frame_members}
 use Rattle.vx_frame_write.specs.Written.{more_members, opened}
 use Rattle.vx_frame_write.proofs.Closing.{pong_written, type_written, message_closed}
-use Rattle.vx_frame_write.proofs.write.append_json.Goals as goal
+use Rattle.vx_frame_write.proofs.write.write_json.Goals as goal
 
 pub returns-in-Pong : goal.returns-in-Pong
 returns-in-Pong c = on_ok_weaker c.append.result (λ written. written

@@ -1,0 +1,55 @@
+-- Calls that the hub makes so far: those of the event bus. Each other one is defined, and no store has a body for it yet.
+-- (This project's own.)
+use Rattle.std.specs.Prelude.{◌≡◌, Bool, true, false, not, ◌&&◌, List, [], ◌∷◌, Some}
+use Rattle.vx_call.specs.declared.call.Call.{Call}
+use Rattle.vx_call.specs.declared.call.Call.TheVariants as calls
+use Rattle.vx_call.specs.declared.history.Traced.{Traced}
+use Rattle.vx_call.specs.History.{no_mark}
+
+-- calls of verticles: of their event loops and pools, of deployments, and the closing of the hub
+abbrev pub is_of_verticles : Call → Bool
+is_of_verticles (calls.SetLoops count) = true
+is_of_verticles (calls.AddPool name size) = true
+is_of_verticles (calls.Deploy worker pool tell count) = true
+is_of_verticles (calls.Undeploy deployment tell) = true
+is_of_verticles (calls.StartDone result) = true
+is_of_verticles calls.StopDone = true
+is_of_verticles calls.Close = true
+is_of_verticles _ = false
+
+-- calls that hand something to a context for later: a handler that is called once, a timer, code, or how a promise ends
+abbrev pub hands_over : Call → Bool
+hands_over (calls.Request context address body options timeout (Some argument)) = true
+hands_over (calls.SetTimer context delay periodic) = true
+hands_over (calls.CancelTimer id) = true
+hands_over (calls.RunOn context once) = true
+hands_over (calls.Blocking context ordered once) = true
+hands_over calls.NewPromise = true
+hands_over (calls.Complete promise value) = true
+hands_over (calls.FailPromise promise code) = true
+hands_over (calls.Compose way parts) = true
+hands_over (calls.Await context promise) = true
+hands_over _ = false
+
+-- calls of servers and connections
+abbrev pub is_of_connections : Call → Bool
+is_of_connections (calls.Listen context host port) = true
+is_of_connections (calls.Accepted server) = true
+is_of_connections (calls.OpenConn permits) = true
+is_of_connections (calls.FrameIn conn frame) = true
+is_of_connections (calls.TakeOut conn) = true
+is_of_connections (calls.CloseConn conn) = true
+is_of_connections _ = false
+
+abbrev pub is_built : Call → Bool
+is_built call = not (is_of_verticles call) && (not (hands_over call) && not (is_of_connections call))
+
+-- an entry of such a call, which has nothing to do with connections
+pub record IsBuilt (new : Traced) : Type 0 where
+  pub call : is_built new.entry.call ≡ true
+  pub mark : new.mark ≡ no_mark
+
+-- each entry of the history is one of them
+abbrev pub AreBuilt : List Traced → Type 0
+AreBuilt [] = Unit {0}
+AreBuilt (new ∷ others) = IsBuilt new × AreBuilt others

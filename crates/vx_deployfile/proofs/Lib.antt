@@ -1,0 +1,13 @@
+pub mod Again
+pub mod Cuts
+pub mod Limits
+pub mod Lists
+pub mod Making
+pub mod Optional
+pub mod Outlines
+pub mod Reading
+pub mod Rereading
+pub mod Sizes
+pub mod Sound
+pub mod Steps
+pub mod Well

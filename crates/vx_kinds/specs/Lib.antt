@@ -1,0 +1,4 @@
+pub mod Rules
+pub mod States
+pub mod Kinds
+pub mod Hosts
