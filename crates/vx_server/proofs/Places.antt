@@ -13,19 +13,6 @@ both : (a b : Bool) → (a && b) ≡ true → (a ≡ true) × (b ≡ true)
 both true b holds = (refl, holds)
 both false b holds = absurd (cc)
 
-or_same : (a b : Bool) → (b ≡ true → a ≡ true) → a ≡ (a || b)
-or_same true b holds = refl
-or_same false true holds = holds refl
-or_same false false holds = refl
-
-or_true : (a : Bool) → (a || true) ≡ true
-or_true true = refl
-or_true false = refl
-
-or_false : (a : Bool) → (a || false) ≡ a
-or_false true = refl
-or_false false = refl
-
 pub or_left : (a b : Bool) → a ≡ true → (a || b) ≡ true
 or_left true b holds = refl
 or_left false b holds = absurd (cc)
@@ -58,20 +45,9 @@ zero_same : (b : Bool) (old new : Option ℕ) → (b ≡ true → old ≡ None) 
 zero_same true old new none put = ap count_of put ∙ sym (ap count_of (none refl))
 zero_same false old new none put = ap count_of put
 
-some_put : (b : Bool) (value : ℕ) (old new : Option ℕ) → new ≡ cond b (Some value) old → is_some new ≡ (is_some old || b)
-some_put true value old new put = ap is_some put ∙ sym (or_true (is_some old))
-some_put false value old new put = ap is_some put ∙ sym (or_false (is_some old))
-
 pub none_counted : (count : Option ℕ) → is_some count ≡ false → count ≡ None
 none_counted None none = refl
 none_counted (Some count) none = absurd (cc)
-
--- turns were counted there before
-pub counted_before : (place other : Place) (turns : List (Place × ℕ)) → is_some (count_at place turns) ≡ true →
-    is_some (count_at other turns) ≡ (is_some (count_at other turns) || same_place place other)
-counted_before place other turns here =
-    let Counted : Place → Type 0 = λ p. is_some (count_at p turns) ≡ true in
-    or_same (is_some (count_at other turns)) (same_place place other) (λ same. subst Counted (same_is place other same) here)
 
 -- turns are counted there from 0
 pub begun_turns : (place other : Place) (old new : List (Place × ℕ)) → count_at place old ≡ None → count_at other new ≡ cond (same_place place other) (Some 0) (count_at other old) →
@@ -79,10 +55,6 @@ pub begun_turns : (place other : Place) (old new : List (Place × ℕ)) → coun
 begun_turns place other old new none put =
     let Uncounted : Place → Type 0 = λ p. count_at p old ≡ None in
     zero_same (same_place place other) (count_at other old) (count_at other new) (λ same. subst Uncounted (same_is place other same) none) put
-
-pub begun_counted : (place other : Place) (old new : List (Place × ℕ)) → count_at other new ≡ cond (same_place place other) (Some 0) (count_at other old) →
-    is_some (count_at other new) ≡ (is_some (count_at other old) || same_place place other)
-begun_counted place other old new put = some_put (same_place place other) 0 (count_at other old) (count_at other new) put
 
 -- ## Turns at places that have lost their servers are forgotten
 

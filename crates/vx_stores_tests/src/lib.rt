@@ -1,4 +1,4 @@
-//! Tests of the stores: consumers at addresses, servers at places, deployments, requests, timers, flows, codecs and
+//! Tests of the stores: consumers at addresses, servers at places, frames that go out, deployments, requests, timers, flows, codecs and
 //! rules, contexts. Each call that takes memory is run once with its answer.
 #![tactic(auto)]
 
@@ -8,6 +8,8 @@ mod contexts;
 mod flows;
 #[cfg(test)]
 mod forms;
+#[cfg(test)]
+mod outs;
 #[cfg(test)]
 mod requests;
 #[cfg(test)]
