@@ -1,6 +1,4 @@
 pub mod Selections
-pub mod LiveChoices
-pub mod LostRows
 pub mod MadeReady
 pub mod UnregisterConsumers
 pub mod UnregisterRequests

@@ -34,7 +34,7 @@ use Rattle.vx_call.specs.declared.reply.Task.TheVariants as tasks
 use Rattle.vx_call.specs.declared.history.Consumer.{Consumer}
 use Rattle.vx_call.specs.declared.history.Traced.{Traced}
 use Rattle.vx_call.specs.History.{is_accepted, made_by, ended_by, plain_entry, no_mark}
-use Rattle.vx_call.specs.Built.{IsBuilt, AreBuilt}
+use Rattle.vx_call.specs.Built.{AreStored}
 use Rattle.vx_call.specs.Kinds.{kind_of}
 use Rattle.vx_call.specs.Names.{next_entry}
 use Rattle.vx_call.specs.Contexts.{contexts as made_contexts, context_at}
@@ -51,17 +51,19 @@ use Rattle.vx_call.specs.Refusals.{unless_refused, bad_fetch}
 use Rattle.vx_call.specs.Rows.{consumer_refusal, fetch_refusal}
 use Rattle.vx_call.proofs.Lasting.{lasting_same, lasting_more, lasting-append}
 use Rattle.vx_call.proofs.Each.{Each, Each-take, Each-drop, weaken, passing}
-use Rattle.vx_call.proofs.Built.{built_more, live_of_context}
+use Rattle.vx_call.proofs.Stored.{stored_more, live_of_context}
+use Rattle.vx_call.proofs.KeepsOpen.{KeepsOpen, call_keeps, closed_kept}
+use Rattle.vx_call.proofs.Dropped.{settled_at_same}
 use Rattle.vx_call.proofs.Consumers.{IsLive, consumers_live, live_found, live_named, same_consumer-swap, same_consumer-true}
 use Rattle.vx_call.proofs.Mailboxes.{mailbox_moved}
 use Rattle.vx_call.proofs.Ready.{count_ready, count_untaken}
-use Rattle.vx_context.specs.Stores.{ContextStore, lane_in, item_of, is_item_for}
+use Rattle.vx_context.specs.Stores.{closed_in, ContextStore, lane_in, item_of, is_item_for}
 use Rattle.vx_context.specs.Stands.{ContextsStand, IsNext}
 use Rattle.vx_context.proofs.Items.{LeavesItems, contexts_stay, items_left}
 use Rattle.vx_bus_store.specs.declared.bus.Handler.{Handler}
 use Rattle.vx_bus_store.specs.Stores.{BusStore, handler_of, handler_in, changed, held_in, message_items, row_of}
 use Rattle.vx_bus_store.specs.Stands.{BusStands, StoresStand, Follows, HavePlaces, AreOfOneHistory}
-use Rattle.vx_bus_store.proofs.Frames.{LeavesConsumers, LeavesRequests, LeavesTasks, LeavesCodecs, LeavesRules, pools_stay, timers_left, requests_left, consumer_kept, consumers_left, rings_left, choices_left, tasks_left, ended_left, given_left, codecs_left, rules_left}
+use Rattle.vx_bus_store.proofs.Frames.{LeavesConsumers, LeavesRequests, LeavesTasks, LeavesCodecs, LeavesRules, pools_stay, timers_left, requests_left, consumer_kept, consumers_left, rings_left, choices_left, tasks_left, given_left, codecs_left, rules_left}
 use Rattle.vx_bus_refusals.proofs.Chains.{none_of_first}
 use Rattle.vx_bus_store.proofs.Handlers.{handler_is, handler_there}
 use Rattle.vx_bus_delivery.proofs.HeldArrivals.{held_changed, named_once}
@@ -74,7 +76,7 @@ use Rattle.vx_bus_consumers.proofs.UnregisterConsumers.{live_there}
 
 -- an entry that leaves all but the flow of a consumer, and which of its messages are ready
 pub record LeavesButFlow (history : List Traced) (new : Traced) : Type 0 where
-  pub built : IsBuilt new
+  pub keeps : KeepsOpen history new
   pub items : LeavesItems history new
   pub pools : made_by pool_kind history new ≡ []
   pub held : made_by held_kind history new ≡ []
@@ -94,9 +96,10 @@ pub flows_stand : (contexts new_contexts : ContextStore) (timers : List Timer) (
     new_bus ≡ record bus { consumers = new_bus.consumers } → new_bus.consumers ≡ map (handler_of (history ++ entry ∷ [])) (consumers history) →
     StoresStand new_contexts timers new_bus (history ++ entry ∷ [])
 flows_stand contexts new_contexts timers bus new_bus history entry leaves stands is_contexts is_waiting is_bus is_consumers = record {
-  built = built_more history entry stands.built leaves.built;
+  stored = stored_more history entry stands.stored leaves.keeps.stored;
   contexts = record {
     made = ap (λ (s : ContextStore). s.made) is_contexts ∙ stands.contexts.made ∙ sym (contexts_stay history entry leaves.items.contexts);
+    closings = λ id. ap (λ (s : ContextStore). closed_in id s.closings) is_contexts ∙ stands.contexts.closings id ∙ sym (closed_kept history entry id leaves.keeps);
     held = ap (λ (s : ContextStore). s.held) is_contexts ∙ stands.contexts.held ∙ sym (lasting_same held_kind history entry leaves.held leaves.finished);
     pools = ap (λ (s : ContextStore). s.pools) is_contexts ∙ stands.contexts.pools ∙ sym (pools_stay history entry leaves.pools);
     waiting = is_waiting ∙ sym (items_left history entry leaves.items (waiting (history ++ entry ∷ [])));
@@ -108,7 +111,7 @@ flows_stand contexts new_contexts timers bus new_bus history entry leaves stands
     choices = λ address. ap (λ (s : BusStore). choices_at address s.rings) is_bus ∙ stands.bus.choices address ∙ sym (choices_left history entry address leaves.consumers leaves.choices);
     tasks = ap (λ (s : BusStore). s.tasks) is_bus ∙ stands.bus.tasks ∙ sym (tasks_left history entry leaves.tasks);
     opened = ap (λ (s : BusStore). s.requests.waiting) is_bus ∙ stands.bus.opened ∙ ap (map row_of) (sym (requests_left history entry leaves.requests));
-    ended = λ id. ap (λ (s : BusStore). ended_at id s.requests.ended) is_bus ∙ stands.bus.ended id ∙ sym (ended_left history entry id stands.built leaves.built leaves.settled);
+    ended = λ id. ap (λ (s : BusStore). ended_at id s.requests.ended) is_bus ∙ stands.bus.ended id ∙ sym (settled_at_same history entry id stands.stored leaves.keeps leaves.settled);
     given = λ id. ap (λ (s : BusStore). given_at id s.given) is_bus ∙ stands.bus.given id ∙ sym (given_left history entry id leaves.given);
     codecs = ap (λ (s : BusStore). s.codecs) is_bus ∙ stands.bus.codecs ∙ sym (codecs_left history entry leaves.codecs);
     rules = ap (λ (s : BusStore). s.rules) is_bus ∙ stands.bus.rules ∙ sym (rules_left history entry leaves.rules);
@@ -155,42 +158,42 @@ flows_changed history new id move change moves counts =
 -- ## Pause
 
 -- the context of a live consumer
-context_there : (history : List Traced) (consumer : Consumer) → AreBuilt history → IsLive history consumer → (context : ContextId) × (context_owning consumer.owner ≡ Some context)
-context_there history consumer built is_live = let home = live_of_context history consumer built is_live in (home.0, ap context_owning home.1)
+context_there : (history : List Traced) (consumer : Consumer) → AreStored history → IsLive history consumer → (context : ContextId) × (context_owning consumer.owner ≡ Some context)
+context_there history consumer stored is_live = let home = live_of_context history consumer stored is_live in (home.0, ap context_owning home.1)
 
 -- as many were not taken as are ready and held
-pub count_for : (bus : BusStore) (history : List Traced) (id : ConsumerId) (consumer : Consumer) → AreBuilt history → BusStands bus history → live history id ≡ Some consumer →
+pub count_for : (bus : BusStore) (history : List Traced) (id : ConsumerId) (consumer : Consumer) → AreStored history → BusStands bus history → live history id ≡ Some consumer →
     length (filter (is_for id) bus.tasks) ≡ length (mailbox history consumer).ready + length (mailbox history consumer).held
-count_for bus history id consumer built stands there =
+count_for bus history id consumer stored stands there =
     let is_live = live_found history id consumer there in
-    let home = context_there history consumer built is_live in
+    let home = context_there history consumer stored is_live in
     ap (λ tasks. length (filter (is_for id) tasks)) stands.tasks
     ∙ length-filter (is_for id) (untaken history)
     ∙ ap (λ k. count_by (is_for k) (untaken history)) (live_named history id consumer there)
     ∙ count_untaken history consumer home.0 home.1 is_live
 
 -- the mailbox of a live consumer is moved as an accepted entry says
-moved_so : (history : List Traced) (new : Traced) (id : ConsumerId) (move : Move) → AreBuilt history →
+moved_so : (history : List Traced) (new : Traced) (id : ConsumerId) (move : Move) → AreStored history →
     ((consumer : Consumer) → cond (is_accepted new.entry.reply) (moves_by consumer history new.entry.pass new.entry.call new.mark new.entry.reply) [] ≡ move_if (same_consumer consumer.id id) move) →
     MovesOne history new id move
-moved_so history new id move built moves consumer is_live =
-    mailbox_moved history new consumer (ap is_context_owner (live_of_context history consumer built is_live).1) is_live ∙ ap (after_moves (mailbox history consumer)) (moves consumer)
+moved_so history new id move stored moves consumer is_live =
+    mailbox_moved history new consumer (ap is_context_owner (live_of_context history consumer stored is_live).1) is_live ∙ ap (after_moves (mailbox history consumer)) (moves consumer)
 
 abbrev pause_entry : PassNo → ConsumerId → Traced
 pause_entry pass id = plain_entry pass (calls.Pause id) replies.Done no_mark
 
-pause_leaves : (history : List Traced) (pass : PassNo) (id : ConsumerId) → AreBuilt history → LeavesButFlow history (pause_entry pass id)
-pause_leaves history pass id built =
+pause_leaves : (history : List Traced) (pass : PassNo) (id : ConsumerId) → LeavesButFlow history (pause_entry pass id)
+pause_leaves history pass id =
     let entry = pause_entry pass id in
-    let one : IsBuilt entry = record { call = refl; mark = refl } in
+    let keeps : KeepsOpen history entry = call_keeps history entry (record { call = refl; mark = refl }) refl in
     record {
-      built = one;
+      keeps = keeps;
       items = record { contexts = refl; queued = refl };
       pools = refl;
       held = refl;
       finished = λ h. refl;
-      requests = record { opened = refl; settled = λ r. request_kept history entry r built one refl };
-      consumers = record { registered = refl; kept = λ c. consumer_kept history entry c built one refl };
+      requests = record { opened = refl; settled = λ r. request_kept history entry r keeps refl };
+      consumers = record { registered = refl; kept = λ c. consumer_kept history entry c keeps refl };
       choices = refl;
       tasks = record { made = refl; kept = λ t. refl };
       settled = refl;
@@ -208,16 +211,16 @@ pauses_so contexts cancelled timers bus new_bus history pass id stands free is_c
     let count = length (filter (is_for id) bus.tasks) in
     let change : Counted → Counted = λ flow. stopped (count - flow.held) flow in
     let counts : Counts history id pauses change = λ consumer is_live named.
-    (let all = count_for bus history id consumer stands.built stands.bus (ap (live history) named ∙ is_live) in
+    (let all = count_for bus history id consumer stands.stored stands.bus (ap (live history) named ∙ is_live) in
     let box = mailbox history consumer in
     let left : length box.ready ≡ count - length box.held = omega (arith, all) in
     pause_in_numbers box ∙ ap (λ n. stopped n (numbers_of box)) left) in
-    let moves : MovesOne history entry id pauses = moved_so history entry id pauses stands.built (λ consumer. refl) in
+    let moves : MovesOne history entry id pauses = moved_so history entry id pauses stands.stored (λ consumer. refl) in
     let is_consumers = ap (λ (s : BusStore). s.consumers) is_bus in
     let is_waiting = ap (λ (s : ContextStore). s.waiting) is_contexts in
     record {
       answered = sym (ap (λ refusal. unless_refused refusal replies.Done) free);
-      stores = flows_stand contexts cancelled timers bus new_bus history entry (pause_leaves history pass id stands.built) stands
+      stores = flows_stand contexts cancelled timers bus new_bus history entry (pause_leaves history pass id) stands
           (is_contexts ∙ ap (λ items. (let s : ContextStore = record contexts { waiting = items; room = cancelled.room } in s)) (sym is_waiting))
           (is_waiting
           ∙ ap (filter (λ (item : Item). not (is_item_for id item.kind))) stands.contexts.waiting
@@ -228,11 +231,11 @@ pauses_so contexts cancelled timers bus new_bus history pass id stands free is_c
     }
 
 -- the ready messages are left out
-left_out : (history : List Traced) (id : ConsumerId) (consumer : Consumer) (all left : List Item) → AreBuilt history → all ≡ map (item_of history) (waiting history) → left ≡ filter (λ (item : Item). not (is_item_for id item.kind)) all →
+left_out : (history : List Traced) (id : ConsumerId) (consumer : Consumer) (all left : List Item) → AreStored history → all ≡ map (item_of history) (waiting history) → left ≡ filter (λ (item : Item). not (is_item_for id item.kind)) all →
     live history id ≡ Some consumer → length all ≡ length left + length (mailbox history consumer).ready
-left_out history id consumer all left built is_all is_left there =
+left_out history id consumer all left stored is_all is_left there =
     let is_live = live_found history id consumer there in
-    let home = context_there history consumer built is_live in
+    let home = context_there history consumer stored is_live in
     let mine : Waiting → Bool = λ item. is_for id item.task in
     let others = filter (λ (item : Waiting). not (mine item)) (waiting history) in
     let kept : length left ≡ length others =
@@ -246,7 +249,7 @@ left_out history id consumer all left built is_all is_left there =
 
 -- where the ready messages are held again, their places are free
 pub places_paused : (contexts cancelled : ContextStore) (timers : List Timer) (bus new_bus : BusStore) (pass : PassNo) (id : ConsumerId) (refusal : Option Refusal) → HavePlaces contexts bus → AreOfOneHistory contexts timers bus →
-    ((history : List Traced) → AreBuilt history → ContextsStand contexts history → BusStands bus history → refusal ≡ consumer_refusal history pass id) → refusal ≡ None →
+    ((history : List Traced) → ContextsStand contexts history → BusStands bus history → refusal ≡ consumer_refusal history pass id) → refusal ≡ None →
     cancelled ≡ record contexts { waiting = filter (λ (item : Item). not (is_item_for id item.kind)) contexts.waiting; room = cancelled.room } →
     contexts.room + length contexts.waiting ≤ cancelled.room + length cancelled.waiting →
     new_bus ≡ record bus { consumers = map (changed id (λ (flow : Counted). stopped (length (filter (is_for id) bus.tasks) - flow.held) flow)) bus.consumers } → HavePlaces cancelled new_bus
@@ -260,10 +263,10 @@ places_paused contexts cancelled timers bus new_bus pass id refusal places one r
       items = ∥∥₁_elim one le_prop (λ p.
           let history = p.0 in
           let stands = p.1 in
-          let there = live_there history pass id (sym (refuses history stands.built stands.contexts stands.bus) ∙ free) in
+          let there = live_there history pass id (sym (refuses history stands.contexts stands.bus) ∙ free) in
           let found = handler_there bus history id there.0 stands.bus there.1 in
-          let all = count_for bus history id there.0 stands.built stands.bus there.1 in
-          let freed_places = left_out history id there.0 contexts.waiting cancelled.waiting stands.built stands.contexts.waiting (ap (λ (s : ContextStore). s.waiting) is_contexts) there.1 in
+          let all = count_for bus history id there.0 stands.stored stands.bus there.1 in
+          let freed_places = left_out history id there.0 contexts.waiting cancelled.waiting stands.stored stands.contexts.waiting (ap (λ (s : ContextStore). s.waiting) is_contexts) there.1 in
           let more = held_changed id change bus.consumers (handler_of history there.0) (named_once contexts timers bus one id) found in
           omega (arith, rows, held, all, freed_places, more, room, places.items));
       tasks = omega (arith, rows, tasks_room, places.tasks);
@@ -295,17 +298,17 @@ held_handled history consumer =
     (weaken (λ task. is_for consumer.id task ≡ true) (λ task. mode_of history task ≡ modes.Handler) mine (message_handled history consumer.id) (passing (is_for consumer.id) (untaken history)))
 
 -- the messages that there is room for now
-freed_waiting : (bus : BusStore) (history : List Traced) (at : EntryNo) (id : ConsumerId) (consumer : Consumer) (context : ContextId) (room : Option ℕ) → AreBuilt history → BusStands bus history → at ≡ next_entry history →
+freed_waiting : (bus : BusStore) (history : List Traced) (at : EntryNo) (id : ConsumerId) (consumer : Consumer) (context : ContextId) (room : Option ℕ) → AreStored history → BusStands bus history → at ≡ next_entry history →
     live history id ≡ Some consumer → context_owning consumer.owner ≡ Some context →
     (let box = mailbox history consumer in
     let mine = filter (is_for id) bus.tasks in
     message_items (made_contexts history) at context 0 (take (freed room (length box.held)) (drop (length mine - length box.held) mine)) ≡ map (item_of history) (freed_items history room consumer))
-freed_waiting bus history at id consumer context room built stands is_next there owns =
+freed_waiting bus history at id consumer context room stored stands is_next there owns =
     let box = mailbox history consumer in
     let made = made_contexts history in
     let count = freed room (length box.held) in
     let mine = filter (is_for id) bus.tasks in
-    let ready : length mine - length box.held ≡ length box.ready = omega (arith, count_for bus history id consumer built stands there) in
+    let ready : length mine - length box.held ≡ length box.ready = omega (arith, count_for bus history id consumer stored stands there) in
     let own : mine ≡ filter (is_for consumer.id) (untaken history) = ap (filter (is_for id)) stands.tasks ∙ ap (λ k. filter (is_for k) (untaken history)) (live_named history id consumer there) in
     let free = take count (held_tasks history consumer) in
     let handled : AreHandled history free = Each-take (λ task. mode_of history task ≡ modes.Handler) count (held_tasks history consumer) (held_handled history consumer) in
@@ -343,7 +346,7 @@ frees_so contexts new_contexts timers bus new_bus history new at id handler cont
     ∙ ap (λ k. made (made_contexts history) bus.tasks k count) is_held
     ∙ ap (λ n. made (made_contexts history) bus.tasks handler.flow.held n) is_count
     ∙ ap (λ (h : Handler). made (made_contexts history) bus.tasks h.flow.held (freed_of h)) is_handler
-    ∙ freed_waiting bus history at id consumer context (room_after (mailbox history consumer).room) stands.built stands.bus entry there home
+    ∙ freed_waiting bus history at id consumer context (room_after (mailbox history consumer).room) stands.stored stands.bus entry there home
     ∙ ap (map (item_of history)) (sym (frees.items ∙ ap (freed_by (λ c. freed_items history (room_after (mailbox history c).room) c)) there)) in
     flows_stand contexts new_contexts timers bus new_bus history new frees.leaves stands
     (is_contexts ∙ ap (λ waits. (let s : ContextStore = record contexts { waiting = waits; room = new_contexts.room } in s)) (sym is_waiting))
@@ -359,19 +362,19 @@ frees_so contexts new_contexts timers bus new_bus history new at id handler cont
 abbrev resume_entry : PassNo → ConsumerId → Traced
 resume_entry pass id = plain_entry pass (calls.Resume id) replies.Done no_mark
 
-resume_frees : (history : List Traced) (pass : PassNo) (id : ConsumerId) → AreBuilt history → Frees history (resume_entry pass id) id resumes (λ room. None) resumed
-resume_frees history pass id built =
+resume_frees : (history : List Traced) (pass : PassNo) (id : ConsumerId) → AreStored history → Frees history (resume_entry pass id) id resumes (λ room. None) resumed
+resume_frees history pass id stored =
     let entry = resume_entry pass id in
-    let one : IsBuilt entry = record { call = refl; mark = refl } in
+    let keeps : KeepsOpen history entry = call_keeps history entry (record { call = refl; mark = refl }) refl in
     record {
       leaves = record {
-        built = one;
+        keeps = keeps;
         items = record { contexts = refl; queued = refl };
         pools = refl;
         held = refl;
         finished = λ h. refl;
-        requests = record { opened = refl; settled = λ r. request_kept history entry r built one refl };
-        consumers = record { registered = refl; kept = λ c. consumer_kept history entry c built one refl };
+        requests = record { opened = refl; settled = λ r. request_kept history entry r keeps refl };
+        consumers = record { registered = refl; kept = λ c. consumer_kept history entry c keeps refl };
         choices = refl;
         tasks = record { made = refl; kept = λ t. refl };
         settled = refl;
@@ -379,7 +382,7 @@ resume_frees history pass id built =
         codecs = record { added = refl; kept = λ c. refl };
         rules = record { added = refl; kept = λ r. refl };
       };
-      moves = moved_so history entry id resumes built (λ consumer. refl);
+      moves = moved_so history entry id resumes stored (λ consumer. refl);
       counts = λ consumer is_live named. resume_in_numbers (mailbox history consumer);
       items = refl;
       kept = λ item. refl;
@@ -394,7 +397,7 @@ resumes_so contexts new_contexts timers bus new_bus history at pass id held hand
     let there = live_there history pass id free in
     record {
       answered = sym (ap (λ refusal. unless_refused refusal replies.Done) free);
-      stores = frees_so contexts new_contexts timers bus new_bus history (resume_entry pass id) at id handler context held held resumes (λ room. None) resumed (resume_frees history pass id stands.built)
+      stores = frees_so contexts new_contexts timers bus new_bus history (resume_entry pass id) at id handler context held held resumes (λ room. None) resumed (resume_frees history pass id stands.stored)
           stands is_next found owns is_held is_held is_bus is_contexts there.0 there.1;
     }
 
@@ -403,19 +406,19 @@ resumes_so contexts new_contexts timers bus new_bus history at pass id held hand
 abbrev fetch_entry : PassNo → ConsumerId → ℕ → Traced
 fetch_entry pass id more = plain_entry pass (calls.Fetch id more) replies.Done no_mark
 
-fetch_frees : (history : List Traced) (pass : PassNo) (id : ConsumerId) (more : ℕ) → AreBuilt history → Frees history (fetch_entry pass id more) id (fetches more) (room_more more) (fetched more)
-fetch_frees history pass id more built =
+fetch_frees : (history : List Traced) (pass : PassNo) (id : ConsumerId) (more : ℕ) → AreStored history → Frees history (fetch_entry pass id more) id (fetches more) (room_more more) (fetched more)
+fetch_frees history pass id more stored =
     let entry = fetch_entry pass id more in
-    let one : IsBuilt entry = record { call = refl; mark = refl } in
+    let keeps : KeepsOpen history entry = call_keeps history entry (record { call = refl; mark = refl }) refl in
     record {
       leaves = record {
-        built = one;
+        keeps = keeps;
         items = record { contexts = refl; queued = refl };
         pools = refl;
         held = refl;
         finished = λ h. refl;
-        requests = record { opened = refl; settled = λ r. request_kept history entry r built one refl };
-        consumers = record { registered = refl; kept = λ c. consumer_kept history entry c built one refl };
+        requests = record { opened = refl; settled = λ r. request_kept history entry r keeps refl };
+        consumers = record { registered = refl; kept = λ c. consumer_kept history entry c keeps refl };
         choices = refl;
         tasks = record { made = refl; kept = λ t. refl };
         settled = refl;
@@ -423,7 +426,7 @@ fetch_frees history pass id more built =
         codecs = record { added = refl; kept = λ c. refl };
         rules = record { added = refl; kept = λ r. refl };
       };
-      moves = moved_so history entry id (fetches more) built (λ consumer. refl);
+      moves = moved_so history entry id (fetches more) stored (λ consumer. refl);
       counts = λ consumer is_live named. fetch_in_numbers more (mailbox history consumer);
       items = refl;
       kept = λ item. refl;
@@ -438,7 +441,7 @@ fetches_so contexts new_contexts timers bus new_bus history at pass id more held
     let there = live_there history pass id (none_of_first (consumer_refusal history pass id) (bad_fetch more) free) in
     record {
       answered = sym (ap (λ refusal. unless_refused refusal replies.Done) free);
-      stores = frees_so contexts new_contexts timers bus new_bus history (fetch_entry pass id more) at id handler context held count (fetches more) (room_more more) (fetched more) (fetch_frees history pass id more stands.built)
+      stores = frees_so contexts new_contexts timers bus new_bus history (fetch_entry pass id more) at id handler context held count (fetches more) (room_more more) (fetched more) (fetch_frees history pass id more stands.stored)
           stands is_next found owns is_held is_count is_bus is_contexts there.0 there.1;
     }
 
@@ -464,10 +467,10 @@ places_freed contexts new_contexts timers bus new_bus id handler count change pl
 
 -- the consumer of a call that is not refused has a handler
 pub not_missing : (contexts : ContextStore) (timers : List Timer) (bus : BusStore) (pass : PassNo) (id : ConsumerId) → AreOfOneHistory contexts timers bus →
-    ((history : List Traced) → AreBuilt history → ContextsStand contexts history → BusStands bus history → consumer_refusal history pass id ≡ None) → handler_in bus.consumers id ≡ None → ⊥
+    ((history : List Traced) → ContextsStand contexts history → BusStands bus history → consumer_refusal history pass id ≡ None) → handler_in bus.consumers id ≡ None → ⊥
 not_missing contexts timers bus pass id one free missing =
     let wrong : true ≡ false = ∥∥₁_elim one (Bool-set true false) (λ p.
-    (let there = live_there p.0 pass id (free p.0 p.1.built p.1.contexts p.1.bus) in
+    (let there = live_there p.0 pass id (free p.0 p.1.contexts p.1.bus) in
     ap is_some (sym (handler_there bus p.0 id there.0 p.1.bus there.1) ∙ missing))) in
     cc
 
@@ -479,7 +482,7 @@ not_homeless contexts timers bus id handler one found homeless =
     elim (live p.0 id) as (λ o. live p.0 id ≡ o → option_map (handler_of p.0) o ≡ Some handler → true ≡ false) [
       | None ↦ λ none some. cc
       | Some consumer ↦ λ there some.
-          (let home = context_there p.0 consumer p.1.built (live_found p.0 id consumer there) in
+          (let home = context_there p.0 consumer p.1.stored (live_found p.0 id consumer there) in
           let same : handler_of p.0 consumer ≡ handler = cc in
           ap is_some (sym home.1 ∙ ap (λ (h : Handler). context_owning h.consumer.owner) same ∙ homeless))
     ] refl (sym (handler_is bus p.0 id p.1.bus) ∙ found)) in

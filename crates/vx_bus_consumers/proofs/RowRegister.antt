@@ -21,14 +21,15 @@ use Rattle.vx_call.specs.declared.reply.Reply.TheVariants as replies
 use Rattle.vx_call.specs.declared.history.Consumer.{Consumer}
 use Rattle.vx_call.specs.declared.history.Traced.{Traced}
 use Rattle.vx_call.specs.History.{plain_entry, no_mark}
-use Rattle.vx_call.specs.Built.{IsBuilt}
 use Rattle.vx_call.specs.Names.{next_consumer}
 use Rattle.vx_call.specs.Consumers.{consumer_kind, consumers, handlers, is_at}
 use Rattle.vx_call.specs.Mailboxes.{mailbox, move_if}
 use Rattle.vx_call.specs.Choices.{choice_kind, is_empty}
 use Rattle.vx_call.specs.Refusals.{unless_refused}
 use Rattle.vx_call.specs.Rows.{register_refusal, ids_of}
-use Rattle.vx_call.proofs.Built.{built_more}
+use Rattle.vx_call.proofs.Stored.{stored_more}
+use Rattle.vx_call.proofs.KeepsOpen.{KeepsOpen, call_keeps}
+use Rattle.vx_call.proofs.Dropped.{settled_at_same}
 use Rattle.vx_call.proofs.Lasting.{lasting_same, lasting_more}
 use Rattle.vx_call.proofs.Mailboxes.{mailbox_unmoved, mailbox_new}
 use Rattle.vx_context.specs.Stores.{ContextStore}
@@ -36,7 +37,7 @@ use Rattle.vx_context.specs.Stands.{IsNext}
 use Rattle.vx_bus_store.specs.declared.bus.Handler.{Handler}
 use Rattle.vx_bus_store.specs.Stores.{BusStore, handler_of, row_of}
 use Rattle.vx_bus_store.specs.Stands.{StoresStand, Follows}
-use Rattle.vx_bus_store.proofs.Frames.{contexts_left, timers_left, requests_left, owner_open, consumer_kept, tasks_left, ended_left, given_left, codecs_left, rules_left, handlers_by, LeavesRequests}
+use Rattle.vx_bus_store.proofs.Frames.{contexts_left, timers_left, requests_left, owner_open, consumer_kept, tasks_left, given_left, codecs_left, rules_left, handlers_by, LeavesRequests}
 use Rattle.vx_bus_store.proofs.KeptRequests.{request_kept}
 
 -- more consumers leave no address without one
@@ -90,18 +91,18 @@ pub registers : (contexts : ContextStore) (timers : List Timer) (old new : BusSt
 registers contexts timers old new history at pass context address limit stands is_next free is_new in_turn chosen =
     let consumer = λ (n : ℕ). (let c : Consumer = record { id = name n; owner = owners.Context context; address = address; limit = limit } in c) in
     let entry = plain_entry pass (calls.Register context address limit) (replies.Consumer (name at.0)) no_mark in
-    let built = stands.built in
-    let one : IsBuilt entry = record { call = refl; mark = refl } in
-    let more = lasting_more consumer_kind history entry (λ c. consumer_kept history entry c built one refl) in
-    let requests : LeavesRequests history entry = record { opened = refl; settled = λ r. request_kept history entry r built one refl } in
+    let keeps : KeepsOpen history entry = call_keeps history entry (record { call = refl; mark = refl }) refl in
+    let more = lasting_more consumer_kind history entry (λ c. consumer_kept history entry c keeps refl) in
+    let requests : LeavesRequests history entry = record { opened = refl; settled = λ r. request_kept history entry r keeps refl } in
     let unmoved : (other : Consumer) → mailbox (history ++ entry ∷ []) other ≡ mailbox history other = λ other.
-    mailbox_unmoved history entry other (ap (λ b. move_if b ends) (owner_open history entry other.owner built one)) in
+    mailbox_unmoved history entry other (ap (λ b. move_if b ends) (owner_open history entry other.owner keeps)) in
     record {
       answered = ap (λ n. replies.Consumer (name n)) is_next ∙ sym (ap (λ r. unless_refused r (replies.Consumer (next_consumer history))) free);
       stores = record {
-        built = built_more history entry built one;
+        stored = stored_more history entry stands.stored keeps.stored;
         contexts = contexts_left contexts history entry
             (record {
+              closings = refl;
               items = record { contexts = refl; queued = refl };
               pools = refl;
               held = refl;
@@ -125,7 +126,7 @@ registers contexts timers old new history at pass context address limit stands i
               ∙ still_live (handlers history b) (filter (is_at b) (consumer (length history) ∷ [])))));
           tasks = ap (λ (s : BusStore). s.tasks) is_new ∙ stands.bus.tasks ∙ sym (tasks_left history entry (record { made = refl; kept = λ t. refl }));
           opened = ap (λ (s : BusStore). s.requests.waiting) is_new ∙ stands.bus.opened ∙ ap (map row_of) (sym (requests_left history entry requests));
-          ended = λ id. ap (λ (s : BusStore). ended_at id s.requests.ended) is_new ∙ stands.bus.ended id ∙ sym (ended_left history entry id built one refl);
+          ended = λ id. ap (λ (s : BusStore). ended_at id s.requests.ended) is_new ∙ stands.bus.ended id ∙ sym (settled_at_same history entry id stands.stored keeps refl);
           given = λ id. ap (λ (s : BusStore). given_at id s.given) is_new ∙ stands.bus.given id ∙ sym (given_left history entry id refl);
           codecs = ap (λ (s : BusStore). s.codecs) is_new ∙ stands.bus.codecs ∙ sym (codecs_left history entry (record { added = refl; kept = λ c. refl }));
           rules = ap (λ (s : BusStore). s.rules) is_new ∙ stands.bus.rules ∙ sym (rules_left history entry (record { added = refl; kept = λ r. refl }));

@@ -17,7 +17,7 @@ use Rattle.vx_call.specs.declared.reply.Reply.TheVariants as replies
 use Rattle.vx_call.specs.declared.history.Consumer.{Consumer}
 use Rattle.vx_call.specs.declared.history.Traced.{Traced}
 use Rattle.vx_call.specs.History.{lasting, plain_entry, no_mark}
-use Rattle.vx_call.specs.Built.{IsBuilt, AreBuilt}
+use Rattle.vx_call.specs.Built.{AreStored}
 use Rattle.vx_data.specs.Ids.{same_consumer}
 use Rattle.vx_call.specs.Registered.{is_named}
 use Rattle.vx_call.specs.Consumers.{consumer_kind, consumers, handlers, live, is_at}
@@ -25,22 +25,24 @@ use Rattle.vx_call.specs.Choices.{is_empty, choice_kind, is_emptied, choices}
 use Rattle.vx_call.specs.Refusals.{refused_if, not_your_consumer, holder_closed}
 use Rattle.vx_call.specs.Rows.{consumer_refusal, ids_of}
 use Rattle.vx_call.proofs.Lasting.{lasting-append}
-use Rattle.vx_call.proofs.Each.{Each, weaken}
+use Rattle.vx_call.proofs.Each.{Each, every, weaken}
+use Rattle.vx_call.proofs.Counts.{count_kept}
 use Rattle.vx_call.proofs.Apart.{Apart}
 use Rattle.vx_call.proofs.Filters.{filter_swap}
 use Rattle.vx_call.proofs.Consumers.{same_by_name, consumers_apart}
 use Rattle.vx_bus_delivery.proofs.Turns.{ring_empty}
-use Rattle.vx_bus_consumers.proofs.LiveChoices.{no_choices}
+use Rattle.vx_bus_store.proofs.LiveChoices.{no_choices}
+use Rattle.vx_call.proofs.KeepsOpen.{KeepsOpen, call_keeps}
 use Rattle.vx_bus_store.proofs.Frames.{ended_by_name}
 use Rattle.vx_bus_store.proofs.Images.{filter_mapped}
-use Rattle.vx_bus_consumers.proofs.Selections.{every, filter_without, count_kept}
+use Rattle.vx_bus_consumers.proofs.Selections.{filter_without}
 
 -- the entry that ends a consumer
 abbrev pub unregister_entry : PassNo → ConsumerId → Traced
 unregister_entry pass id = plain_entry pass (calls.Unregister id) replies.Done no_mark
 
-pub unregister_built : (pass : PassNo) (id : ConsumerId) → IsBuilt (unregister_entry pass id)
-unregister_built pass id = record { call = refl; mark = refl }
+pub unregister_keeps : (history : List Traced) (pass : PassNo) (id : ConsumerId) → KeepsOpen history (unregister_entry pass id)
+unregister_keeps history pass id = call_keeps history (unregister_entry pass id) (record { call = refl; mark = refl }) refl
 
 -- the history once a consumer has ended
 abbrev pub unregistered : List Traced → PassNo → ConsumerId → List Traced
@@ -74,19 +76,19 @@ only_one id (first ∷ others) consumer found apart =
 
 -- ## The handlers
 
-gone : (history : List Traced) (pass : PassNo) (id : ConsumerId) → AreBuilt history → consumers (unregistered history pass id) ≡ filter (λ c. not (is_named id c)) (consumers history)
-gone history pass id built =
+gone : (history : List Traced) (pass : PassNo) (id : ConsumerId) → consumers (unregistered history pass id) ≡ filter (λ c. not (is_named id c)) (consumers history)
+gone history pass id =
     let entry = unregister_entry pass id in
     lasting-append consumer_kind history entry
     ∙ append-nil _
-    ∙ filter_agree _ _ (λ (consumer : Consumer). ap not (ended_by_name history entry consumer built (unregister_built pass id))) (consumers history)
+    ∙ filter_agree _ _ (λ (consumer : Consumer). ap not (ended_by_name history entry consumer (unregister_keeps history pass id))) (consumers history)
 
-pub consumers_left : (history : List Traced) (pass : PassNo) (id : ConsumerId) → AreBuilt history → filter (λ (c : Consumer). not (is_named id c)) (consumers history) ≡ consumers (unregistered history pass id)
-consumers_left history pass id built = sym (gone history pass id built)
+pub consumers_left : (history : List Traced) (pass : PassNo) (id : ConsumerId) → filter (λ (c : Consumer). not (is_named id c)) (consumers history) ≡ consumers (unregistered history pass id)
+consumers_left history pass id = sym (gone history pass id)
 
 -- at an address: those that were there and have another name
-handlers_left : (history : List Traced) (pass : PassNo) (id : ConsumerId) (address : List ℕ) → AreBuilt history → handlers (unregistered history pass id) address ≡ filter (λ c. not (is_named id c)) (handlers history address)
-handlers_left history pass id address built = ap (filter (is_at address)) (gone history pass id built) ∙ filter_swap (is_at address) (λ c. not (is_named id c)) (consumers history)
+handlers_left : (history : List Traced) (pass : PassNo) (id : ConsumerId) (address : List ℕ) → handlers (unregistered history pass id) address ≡ filter (λ c. not (is_named id c)) (handlers history address)
+handlers_left history pass id address = ap (filter (is_at address)) (gone history pass id) ∙ filter_swap (is_at address) (λ c. not (is_named id c)) (consumers history)
 
 is_not_at : (consumer : Consumer) (address : List ℕ) → bytes_eq address consumer.address ≡ false → is_at address consumer ≡ false
 is_not_at consumer address other =
@@ -96,24 +98,24 @@ is_not_at consumer address other =
     ] (bytes_eq-Decides consumer.address address).0
 
 -- at other addresses all stay
-handlers_same : (history : List Traced) (pass : PassNo) (id : ConsumerId) (consumer : Consumer) (address : List ℕ) → AreBuilt history → find (is_named id) (consumers history) ≡ Some consumer →
+handlers_same : (history : List Traced) (pass : PassNo) (id : ConsumerId) (consumer : Consumer) (address : List ℕ) → find (is_named id) (consumers history) ≡ Some consumer →
     bytes_eq address consumer.address ≡ false → handlers (unregistered history pass id) address ≡ handlers history address
-handlers_same history pass id consumer address built found other =
-    ap (filter (is_at address)) (gone history pass id built)
+handlers_same history pass id consumer address found other =
+    ap (filter (is_at address)) (gone history pass id)
     ∙ filter_without (is_at address) (is_named id) (consumers history)
     (weaken (λ c. is_named id c ≡ true → c ≡ consumer) (λ c. is_named id c ≡ true → is_at address c ≡ false) (consumers history)
     (λ c only named. ap (is_at address) (only named) ∙ is_not_at consumer address other)
     (only_one id (consumers history) consumer found (consumers_apart history)))
 
-pub rings_left : (history : List Traced) (pass : PassNo) (id : ConsumerId) (consumer : Consumer) (address : List ℕ) → AreBuilt history → find (is_named id) (consumers history) ≡ Some consumer →
+pub rings_left : (history : List Traced) (pass : PassNo) (id : ConsumerId) (consumer : Consumer) (address : List ℕ) → find (is_named id) (consumers history) ≡ Some consumer →
     cond (bytes_eq address consumer.address) (filter (λ other. not (same_consumer id other)) (ids_of (handlers history address))) (ids_of (handlers history address)) ≡ ids_of (handlers (unregistered history pass id) address)
-rings_left history pass id consumer address built found =
+rings_left history pass id consumer address found =
     elim (bytes_eq address consumer.address) as (λ b. bytes_eq address consumer.address ≡ b →
     cond b (filter (λ other. not (same_consumer id other)) (ids_of (handlers history address))) (ids_of (handlers history address)) ≡ ids_of (handlers (unregistered history pass id) address)) [
       | true ↦ λ here.
           filter_mapped (λ other. not (same_consumer id other)) (λ (c : Consumer). not (is_named id c)) (λ (c : Consumer). c.id) (handlers history address) (every _ (λ c. refl) (handlers history address))
-          ∙ sym (ap ids_of (handlers_left history pass id address built))
-      | false ↦ λ other. sym (ap ids_of (handlers_same history pass id consumer address built found other))
+          ∙ sym (ap ids_of (handlers_left history pass id address))
+      | false ↦ λ other. sym (ap ids_of (handlers_same history pass id consumer address found other))
     ] refl
 
 -- ## The choices
@@ -124,11 +126,11 @@ from_none true true n idle = sym (idle refl)
 from_none true false n idle = refl
 from_none false after n idle = refl
 
-pub choices_left : (history : List Traced) (pass : PassNo) (id : ConsumerId) (address : List ℕ) → AreBuilt history →
+pub choices_left : (history : List Traced) (pass : PassNo) (id : ConsumerId) (address : List ℕ) → AreStored history →
     cond (ring.is_empty (ids_of (handlers (unregistered history pass id) address))) 0 (choices history address) ≡ choices (unregistered history pass id) address
-choices_left history pass id address built =
+choices_left history pass id address stored =
     let entry = unregister_entry pass id in
     ap (λ b. cond b 0 (choices history address)) (ring_empty (handlers (unregistered history pass id) address))
-    ∙ from_none (is_empty (handlers history address)) (is_empty (handlers (unregistered history pass id) address)) (choices history address) (no_choices history address built)
+    ∙ from_none (is_empty (handlers history address)) (is_empty (handlers (unregistered history pass id) address)) (choices history address) (no_choices history address stored)
     ∙ sym (count_kept (is_emptied history entry) address (lasting choice_kind history))
     ∙ ap (count_by (bytes_eq address)) (sym (lasting-append choice_kind history entry ∙ append-nil _))

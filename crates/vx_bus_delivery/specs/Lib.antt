@@ -1,3 +1,4 @@
 pub mod Passages
 pub mod Deliveries
 pub mod Ending
+pub mod Lost

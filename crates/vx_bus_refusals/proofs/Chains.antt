@@ -25,21 +25,6 @@ more {so_far = so_far} {cause = cause} {is = is} {causes = causes} chain or same
 pub last : {X : Type 0} {so_far all cause is : Option X} {causes : Option X → Option X} → IsChain so_far causes → all ≡ option_or so_far cause → cause ≡ is → all ≡ causes is
 last {cause = cause} {causes = causes} chain or same = or ∙ chain.behind cause ∙ ap causes same
 
--- a cause that is not there is left out, in the middle or at the end
-pub skip : {X : Type 0} {so_far absent : Option X} {causes : Option X → Option X} → IsChain so_far causes → absent ≡ None → IsChain so_far (λ rest. causes (option_or absent rest))
-skip {causes = causes} chain none = record { behind = λ rest. chain.behind rest ∙ sym (ap (λ o. causes (option_or o rest)) none) }
-
-pub or_none : {X : Type 0} (o : Option X) → option_or o None ≡ o
-or_none None = refl
-or_none (Some x) = refl
-
-pub none_behind : {X : Type 0} (o : Option X) {absent : Option X} → absent ≡ None → o ≡ option_or o absent
-none_behind o none = sym (ap (option_or o) none ∙ or_none o)
-
--- ... and at the front
-pub none_before : {X : Type 0} (o : Option X) {absent : Option X} → absent ≡ None → o ≡ option_or absent o
-none_before o none = sym (ap (λ a. option_or a o) none)
-
 -- where there is no cause, neither was one of two
 pub none_of_first : {X : Type 0} (a b : Option X) → option_or a b ≡ None → a ≡ None
 none_of_first None b none = refl

@@ -6,7 +6,6 @@ ghost use Rattle.vx_data.specs.declared.ids.PassNo.{PassNo};
 ghost use Rattle.vx_message.specs.Codecs.{is_codec};
 ghost use Rattle.vx_message.specs.Rules.{rules_of, verdict_bytes};
 ghost use Rattle.vx_call.specs.declared.history.Traced.{Traced};
-ghost use Rattle.vx_call.specs.Built.{AreBuilt};
 ghost use Rattle.vx_call.specs.Refusals as machine;
 ghost use Rattle.vx_call.specs.Rows as rows;
 ghost use Rattle.vx_context.specs.Stands.{ContextsStand};
@@ -14,7 +13,7 @@ ghost use Rattle.vx_bus_store.specs.Stands.{BusStands};
 
 use vx_bus_store::Bus;
 use vx_call::{CodecForm, Options, Refusal, Side, Verdict};
-use vx_context::{Contexts, no_context, not_your_context};
+use vx_context::{Contexts, closed, holder_closed, no_context, not_your_context};
 use vx_data::{Body, ConsumerId, ContextId, MessageId, PassNo, RuleId, Text};
 use vx_message::{MAX_ADDED_BYTES, MAX_RULES, Owner};
 
@@ -296,10 +295,11 @@ pub fn register_refusal(
     address: &Text,
     limit: u32,
 ) -> Option<Refusal>
-    ensures { (history : List Traced) → AreBuilt history → ContextsStand contexts.now history → result ≡ rows.register_refusal history pass context address.now limit }
+    ensures { (history : List Traced) → ContextsStand contexts.now history → result ≡ rows.register_refusal history pass context address.now limit }
 {
     no_context(contexts, context)
         .or(not_your_context(contexts, pass, context))
+        .or(closed(contexts, pass, context))
         .or(bad_address(address))
         .or(bad_limit(limit))
 }
@@ -311,9 +311,11 @@ pub fn consumer_refusal(
     pass: PassNo,
     id: ConsumerId,
 ) -> Option<Refusal>
-    ensures { (history : List Traced) → AreBuilt history → ContextsStand contexts.now history → BusStands bus.now history → result ≡ rows.consumer_refusal history pass id }
+    ensures { (history : List Traced) → ContextsStand contexts.now history → BusStands bus.now history → result ≡ rows.consumer_refusal history pass id }
 {
-    no_consumer(bus, id).or(not_your_consumer(contexts, bus, pass, id))
+    no_consumer(bus, id)
+        .or(not_your_consumer(contexts, bus, pass, id))
+        .or(holder_closed(contexts, pass))
 }
 
 /// Why a Fetch is refused.
@@ -324,16 +326,24 @@ pub fn fetch_refusal(
     id: ConsumerId,
     count: u32,
 ) -> Option<Refusal>
-    ensures { (history : List Traced) → AreBuilt history → ContextsStand contexts.now history → BusStands bus.now history → result ≡ rows.fetch_refusal history pass id count }
+    ensures { (history : List Traced) → ContextsStand contexts.now history → BusStands bus.now history → result ≡ rows.fetch_refusal history pass id count }
 {
     consumer_refusal(contexts, bus, pass, id).or(bad_fetch(count))
 }
 
 /// Why a Send or a Publish is refused.
-pub fn send_refusal(bus: &Bus, address: &Text, body: &Body, options: &Options) -> Option<Refusal>
-    ensures { (history : List Traced) (pass : PassNo) → AreBuilt history → BusStands bus.now history → result ≡ rows.send_refusal history pass address.now body.now options.now }
+pub fn send_refusal(
+    contexts: &Contexts,
+    bus: &Bus,
+    pass: PassNo,
+    address: &Text,
+    body: &Body,
+    options: &Options,
+) -> Option<Refusal>
+    ensures { (history : List Traced) → ContextsStand contexts.now history → BusStands bus.now history → result ≡ rows.send_refusal history pass address.now body.now options.now }
 {
     no_such_codec(bus, options)
+        .or(holder_closed(contexts, pass))
         .or(bad_address(address))
         .or(too_large(body, options))
 }
@@ -349,11 +359,12 @@ pub fn request_refusal(
     options: &Options,
     timeout: u64,
 ) -> Option<Refusal>
-    ensures { (history : List Traced) → AreBuilt history → ContextsStand contexts.now history → BusStands bus.now history → result ≡ rows.request_refusal history pass context address.now body.now options.now timeout }
+    ensures { (history : List Traced) → ContextsStand contexts.now history → BusStands bus.now history → result ≡ rows.request_refusal history pass context address.now body.now options.now timeout }
 {
     no_context(contexts, context)
         .or(no_such_codec(bus, options))
         .or(not_your_context(contexts, pass, context))
+        .or(closed(contexts, pass, context))
         .or(bad_address(address))
         .or(too_large(body, options))
         .or(bad_delay(timeout))
@@ -368,12 +379,13 @@ pub fn reply_refusal(
     body: &Body,
     options: &Options,
 ) -> Option<Refusal>
-    ensures { (history : List Traced) → AreBuilt history → ContextsStand contexts.now history → BusStands bus.now history → result ≡ rows.reply_refusal history pass message body.now options.now }
+    ensures { (history : List Traced) → ContextsStand contexts.now history → BusStands bus.now history → result ≡ rows.reply_refusal history pass message body.now options.now }
 {
     no_message(bus, message)
         .or(not_request(bus, message))
         .or(no_such_codec(bus, options))
         .or(not_your_message(contexts, bus, pass, message))
+        .or(holder_closed(contexts, pass))
         .or(too_large(body, options))
         .or(late(bus, message))
 }
@@ -386,11 +398,12 @@ pub fn fail_refusal(
     message: MessageId,
     text: &Text,
 ) -> Option<Refusal>
-    ensures { (history : List Traced) → AreBuilt history → ContextsStand contexts.now history → BusStands bus.now history → result ≡ rows.fail_refusal history pass message text.now }
+    ensures { (history : List Traced) → ContextsStand contexts.now history → BusStands bus.now history → result ≡ rows.fail_refusal history pass message text.now }
 {
     no_message(bus, message)
         .or(not_request(bus, message))
         .or(not_your_message(contexts, bus, pass, message))
+        .or(holder_closed(contexts, pass))
         .or(over(MAX_FAILURE_TEXT, text.len() as u128))
         .or(late(bus, message))
 }
@@ -406,7 +419,7 @@ pub fn reply_request_refusal(
     options: &Options,
     timeout: u64,
 ) -> Option<Refusal>
-    ensures { (history : List Traced) → AreBuilt history → ContextsStand contexts.now history → BusStands bus.now history → result ≡ rows.reply_request_refusal history pass message context body.now options.now timeout }
+    ensures { (history : List Traced) → ContextsStand contexts.now history → BusStands bus.now history → result ≡ rows.reply_request_refusal history pass message context body.now options.now timeout }
 {
     no_message(bus, message)
         .or(not_request(bus, message))
@@ -414,17 +427,25 @@ pub fn reply_request_refusal(
         .or(no_such_codec(bus, options))
         .or(not_your_message(contexts, bus, pass, message))
         .or(not_your_context(contexts, pass, context))
+        .or(closed(contexts, pass, context))
         .or(too_large(body, options))
         .or(bad_delay(timeout))
         .or(late(bus, message))
 }
 
 /// Why an AddCodec is refused.
-pub fn add_codec_refusal(bus: &Bus, name: &Text, form: &CodecForm) -> Option<Refusal>
-    ensures refusal { (history : List Traced) (pass : PassNo) → AreBuilt history → BusStands bus.now history → result ≡ rows.add_codec_refusal history pass name.now form.now }
+pub fn add_codec_refusal(
+    contexts: &Contexts,
+    bus: &Bus,
+    pass: PassNo,
+    name: &Text,
+    form: &CodecForm,
+) -> Option<Refusal>
+    ensures refusal { (history : List Traced) → ContextsStand contexts.now history → BusStands bus.now history → result ≡ rows.add_codec_refusal history pass name.now form.now }
     ensures free { result ≡ None → find (is_codec name.now) bus.now.codecs ≡ None }
 {
-    bad_address(name)
+    holder_closed(contexts, pass)
+        .or(bad_address(name))
         .or(over(MAX_KEYS, key_count(form) as u128))
         .or(long_key(form))
         .or(codec_taken(bus, name))
@@ -432,13 +453,18 @@ pub fn add_codec_refusal(bus: &Bus, name: &Text, form: &CodecForm) -> Option<Ref
 }
 
 /// Why an AddRule is refused.
-pub fn add_rule_refusal(bus: &Bus, side: Side, verdict: &Verdict) -> Option<Refusal>
-    ensures refusal { (history : List Traced) (pass : PassNo) → AreBuilt history → BusStands bus.now history → result ≡ rows.add_rule_refusal history pass side verdict.now }
+pub fn add_rule_refusal(
+    contexts: &Contexts,
+    bus: &Bus,
+    pass: PassNo,
+    side: Side,
+    verdict: &Verdict,
+) -> Option<Refusal>
+    ensures refusal { (history : List Traced) → ContextsStand contexts.now history → BusStands bus.now history → result ≡ rows.add_rule_refusal history pass side verdict.now }
     ensures few { result ≡ None → length (rules_of side bus.now.rules) < 64 }
     ensures small { result ≡ None → verdict_bytes verdict.now ≤ 1024 }
 {
-    over(MAX_ADDED_BYTES, added_bytes(verdict)).or(over(
-        MAX_RULES,
-        bus.rule_count(side) as u128 + 1,
-    ))
+    holder_closed(contexts, pass)
+        .or(over(MAX_ADDED_BYTES, added_bytes(verdict)))
+        .or(over(MAX_RULES, bus.rule_count(side) as u128 + 1))
 }

@@ -15,7 +15,7 @@ use Rattle.vx_call.specs.declared.reply.To.TheVariants as reached
 use Rattle.vx_call.specs.declared.history.Consumer.{Consumer}
 use Rattle.vx_call.specs.declared.history.Deed.TheVariants as deeds
 use Rattle.vx_call.specs.declared.history.Traced.{Traced}
-use Rattle.vx_call.specs.Built.{AreBuilt}
+use Rattle.vx_call.specs.Built.{AreStored}
 use Rattle.vx_call.specs.Rules.{rules, passed}
 use Rattle.vx_call.specs.Messages.{message_to, message_of, sent, received}
 use Rattle.vx_call.specs.Choices.{choice}
@@ -79,10 +79,10 @@ reached_is bus history address (Some m) (Some message) (Some consumer) turn here
     ap (destination_of bus (passage_of (Some m) (Some message))) turn ∙ ap arrival_of is_here.found ∙ ap (arrived_at consumer) is_here.arrival
 
 -- what a call's message reaches is what the machine says
-pub destination_is : (bus : BusStore) (history : List Traced) (call : Call) (address : List ℕ) → AreBuilt history → BusStands bus history →
+pub destination_is : (bus : BusStore) (history : List Traced) (call : Call) (address : List ℕ) → AreStored history → BusStands bus history →
     destination_in bus (passage_of (sent history call deeds.Nothing) (received history call deeds.Nothing)) address ≡ destination history call address
-destination_is bus history call address built stands =
+destination_is bus history call address stored stands =
     reached_is bus history address (sent history call deeds.Nothing) (received history call deeds.Nothing) (choice history address) (turn_is bus history address stands)
     (λ consumer is_choice.
     let is_live = choice_live history address consumer is_choice in
-    record { found = handler_there bus history consumer.id consumer stands is_live; arrival = sym (arrives_here history consumer built is_live) })
+    record { found = handler_there bus history consumer.id consumer stands is_live; arrival = sym (arrives_here history consumer stored is_live) })

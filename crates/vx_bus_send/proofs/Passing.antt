@@ -2,7 +2,7 @@
 use Rattle.std.proofs.Common.{◌≡◌, ℕ, List, [], ◌∷◌, ◌++◌, refl, ap, sym, ◌∙◌}
 use Rattle.std.proofs.Common.{◌⊎◌, inl, inr}
 use Rattle.std.specs.Prelude.{Bool, true, false, cond, filter, find, map, is_some, Option, None, Some}
-use Rattle.std.specs.Option.{option_map, option_and_then, option_to_list}
+use Rattle.std.specs.Option.{option_map, option_and_then, option_to_list, option_or}
 use Rattle.std.proofs.lemmas.List.{map-append}
 use Rattle.vx_data.specs.declared.ids.ConsumerId.{ConsumerId}
 use Rattle.vx_data.specs.declared.ids.MessageId.{MessageId}
@@ -25,7 +25,7 @@ use Rattle.vx_call.specs.declared.history.Consumer.{Consumer}
 use Rattle.vx_call.specs.declared.history.Deed.TheVariants as deeds
 use Rattle.vx_call.specs.declared.history.Traced.{Traced}
 use Rattle.vx_call.specs.History.{made_by, ended_by, lasting}
-use Rattle.vx_call.specs.Built.{IsBuilt, AreBuilt}
+use Rattle.vx_call.specs.Built.{AreStored}
 use Rattle.vx_call.specs.Names.{next_message}
 use Rattle.vx_call.specs.Registered.{is_named}
 use Rattle.vx_call.specs.Consumers.{consumers, live}
@@ -37,11 +37,12 @@ use Rattle.vx_call.specs.Choices.{choices, choice}
 use Rattle.vx_call.specs.Mailboxes.{mailbox, move_if, arrival_at, is_ready, is_accepted, readied, accepting}
 use Rattle.vx_call.specs.Given.{given_kind}
 use Rattle.vx_call.specs.Requests.{Open, open_kind, open_made, unsettled, by_due}
-use Rattle.vx_call.specs.Settled.{settled_kind, settled_made}
+use Rattle.vx_call.specs.Settled.{settled_kind, settled_made, settled_at}
 use Rattle.vx_call.specs.Items.{Waiting, item_kind, item_by, waiting, task_kind, task_made, untaken}
 use Rattle.vx_call.specs.Rows.{arrived_at, reached_by, destination}
 use Rattle.vx_call.proofs.Lasting.{lasting_more}
-use Rattle.vx_call.proofs.Built.{built_more, settled_by_outcome}
+use Rattle.vx_call.proofs.Stored.{stored_more}
+use Rattle.vx_call.proofs.Dropped.{ended_among, settled_at_kept}
 use Rattle.vx_call.proofs.Each.{weaken}
 use Rattle.vx_call.proofs.Consumers.{IsLive, consumers_live, same_consumer-true, same_consumer-swap}
 use Rattle.vx_call.proofs.Arrivals.{choice_live}
@@ -59,7 +60,6 @@ use Rattle.vx_bus_send.proofs.Settling.{at_of}
 
 -- an accepted entry whose call makes a message, and does no more than that
 pub record IsPassed (history : List Traced) (new : Traced) (call : Call) : Type 0 where
-  pub built : IsBuilt new
   pub contexts : KeepsContexts history new
   pub consumers : LeavesConsumers history new
   pub given : made_by given_kind history new ≡ []
@@ -86,7 +86,7 @@ pub record GoesOut (contexts new_contexts : ContextStore) (new_timers : List Tim
   pub choices : (a : List ℕ) → choices_at a new_bus.rings ≡ choices (history ++ new ∷ []) a
   pub tasks : new_bus.tasks ≡ bus.tasks ++ task_made history new.entry.pass call deeds.Nothing
   pub opened : new_bus.requests.waiting ≡ bus.requests.waiting ++ map row_of (open_made history call deeds.Nothing)
-  pub ended : (id : MessageId) → ended_at id new_bus.requests.ended ≡ option_map at_of (find (is_settled_as id) (lasting settled_kind history ++ settled_made history new.entry.pass call deeds.Nothing))
+  pub ended : (id : MessageId) → ended_at id new_bus.requests.ended ≡ option_or (settled_at history id) (ended_among id (settled_made history new.entry.pass call deeds.Nothing))
   pub given : (id : MessageId) → given_at id new_bus.given ≡ given_at id bus.given
   pub codecs : new_bus.codecs ≡ bus.codecs
   pub rules : new_bus.rules ≡ bus.rules
@@ -98,10 +98,8 @@ goes_out contexts new_contexts timers new_timers bus new_bus history new call pa
     let more_open : unsettled (history ++ new ∷ []) ≡ unsettled history ++ open_made history call deeds.Nothing = lasting_more open_kind history new passed.closed ∙ ap (λ made. unsettled history ++ made) passed.opened in
     let more_items : waiting (history ++ new ∷ []) ≡ waiting history ++ item_by history new call = lasting_more item_kind history new passed.kept ∙ ap (λ made. waiting history ++ made) passed.items in
     let more_tasks : untaken (history ++ new ∷ []) ≡ untaken history ++ task_made history new.entry.pass call deeds.Nothing = lasting_more task_kind history new passed.untaken ∙ ap (λ made. untaken history ++ made) passed.tasks in
-    let more_ended : lasting settled_kind (history ++ new ∷ []) ≡ lasting settled_kind history ++ settled_made history new.entry.pass call deeds.Nothing = settled-append history new ∙ ap (λ made. lasting settled_kind history ++ made) passed.settled in
-    let built = built_more history new stands.built passed.built in
     record {
-      built = built;
+      stored = stored_more history new stands.stored passed.contexts.keeps.stored;
       contexts = contexts_more contexts new_contexts history new (item_by history new call) passed.contexts more_items stands.contexts out.items;
       timers = out.timers ∙ ap (λ requests. map timer_of (by_due requests)) (sym more_open);
       bus = record {
@@ -112,7 +110,7 @@ goes_out contexts new_contexts timers new_timers bus new_bus history new call pa
         opened = out.opened
             ∙ ap (λ rows. rows ++ map row_of (open_made history call deeds.Nothing)) stands.bus.opened
             ∙ sym (ap (map row_of) more_open ∙ map-append row_of (unsettled history) (open_made history call deeds.Nothing));
-        ended = λ id. out.ended id ∙ ap (λ all. option_map at_of (find (is_settled_as id) all)) (sym more_ended) ∙ sym (settled_by_outcome (history ++ new ∷ []) id built);
+        ended = λ id. out.ended id ∙ ap (λ made. option_or (settled_at history id) (ended_among id made)) (sym passed.settled) ∙ sym (settled_at_kept history new id stands.stored passed.contexts.keeps);
         given = λ id. out.given id ∙ stands.bus.given id ∙ sym (given_left history new id passed.given);
         codecs = out.codecs ∙ stands.bus.codecs ∙ sym (codecs_left history new passed.codecs);
         rules = out.rules ∙ stands.bus.rules ∙ sym (rules_left history new passed.rules);
@@ -253,13 +251,13 @@ lost_stays : (handler : Handler) (a : Arrive) (b : Bool) → (b ≡ true → a �
 lost_stays handler a true is_lost = ap (λ (k : Arrive). (let h : Handler = record { consumer = handler.consumer; flow = counted k handler.flow } in h)) (is_lost refl)
 lost_stays handler a false is_lost = refl
 
-pub consumers_missed : (history : List Traced) (new : Traced) (call : Call) (to : To) → AreBuilt history → IsPassed history new call → Misses history call to →
+pub consumers_missed : (history : List Traced) (new : Traced) (call : Call) (to : To) → AreStored history → IsPassed history new call → Misses history call to →
     map (handler_of history) (consumers history) ≡ map (handler_of (history ++ new ∷ [])) (consumers history)
-consumers_missed history new call to built passed misses =
+consumers_missed history new call to stored passed misses =
     sym (handlers_by history (handler_of (history ++ new ∷ []))
     (λ consumer is_live. handler_after history new call consumer passed is_live
     ∙ lost_stays (handler_of history consumer) (next_arrival (handler_of history consumer)) (reaches history call deeds.Nothing consumer.id)
-    (λ reaches_it. sym (arrives_here history consumer built is_live) ∙ misses.lost consumer is_live reaches_it)))
+    (λ reaches_it. sym (arrives_here history consumer stored is_live) ∙ misses.lost consumer is_live reaches_it)))
 
 pub consumers_met : (history : List Traced) (new : Traced) (call : Call) (consumer : Consumer) → IsPassed history new call → arrivals.reached history call deeds.Nothing ≡ consumer ∷ [] →
     map (changed consumer.id arrived) (map (handler_of history) (consumers history)) ≡ map (handler_of (history ++ new ∷ [])) (consumers history)

@@ -26,7 +26,7 @@ use Rattle.vx_call.specs.declared.history.Consumer.{Consumer}
 use Rattle.vx_call.specs.declared.history.Deed.TheVariants as deeds
 use Rattle.vx_call.specs.declared.history.Traced.{Traced}
 use Rattle.vx_call.specs.History.{plain_entry, no_mark}
-use Rattle.vx_call.specs.Built.{IsBuilt, AreBuilt}
+use Rattle.vx_call.specs.Built.{AreStored}
 use Rattle.vx_call.specs.Contexts as contexts_of
 use Rattle.vx_call.specs.Owners.{context_owning, is_context_owner}
 use Rattle.vx_call.specs.Homes.{homes}
@@ -47,7 +47,8 @@ use Rattle.vx_call.proofs.Filters.{filter-map}
 use Rattle.vx_call.proofs.Consumers.{IsLive, handlers_live, same_consumer-true}
 use Rattle.vx_call.specs.Consumers as live_ones
 use Rattle.vx_call.proofs.Arrivals.{accepting_live}
-use Rattle.vx_call.proofs.Built.{live_of_context}
+use Rattle.vx_call.proofs.Stored.{live_of_context}
+use Rattle.vx_call.proofs.KeepsOpen.{KeepsOpen, call_keeps}
 use Rattle.vx_call.proofs.Mailboxes.{mailbox_moved}
 use Rattle.vx_context.specs.Stores.{ContextStore, item_of, handler_item}
 use Rattle.vx_context.specs.Stands.{IsNext}
@@ -72,15 +73,14 @@ use Rattle.vx_bus_send.proofs.Sending.{same_items, all_ended}
 abbrev entry_of : PassNo → List ℕ → Tree → Options → List ConsumerId → Traced
 entry_of pass address body options names = plain_entry pass (calls.Publish address body options) (replies.Published names) no_mark
 
-passed_publish : (history : List Traced) (pass : PassNo) (address : List ℕ) (body : Tree) (options : Options) (names : List ConsumerId) → AreBuilt history →
+passed_publish : (history : List Traced) (pass : PassNo) (address : List ℕ) (body : Tree) (options : Options) (names : List ConsumerId) → AreStored history →
     IsPassed history (entry_of pass address body options names) (calls.Publish address body options)
-passed_publish history pass address body options names built =
+passed_publish history pass address body options names stored =
     let entry = entry_of pass address body options names in
-    let one : IsBuilt entry = record { call = refl; mark = refl } in
+    let keeps : KeepsOpen history entry = call_keeps history entry (record { call = refl; mark = refl }) refl in
     record {
-      built = one;
-      contexts = record { items = record { contexts = refl; queued = refl }; pools = refl; held = refl; finished = λ held. refl };
-      consumers = record { registered = refl; kept = λ consumer. consumer_kept history entry consumer built one refl };
+      contexts = record { keeps = keeps; items = record { contexts = refl; queued = refl }; pools = refl; held = refl; finished = λ held. refl };
+      consumers = record { registered = refl; kept = λ consumer. consumer_kept history entry consumer keeps refl };
       given = refl;
       codecs = record { added = refl; kept = λ codec. refl };
       rules = record { added = refl; kept = λ rule. refl };
@@ -90,8 +90,8 @@ passed_publish history pass address body options names built =
       kept = λ item. refl;
       settled = refl;
       opened = refl;
-      closed = λ request. request_stays history pass (calls.Publish address body options) request built refl;
-      moves = λ consumer is_live. mailbox_moved history entry consumer (ap is_context_owner (live_of_context history consumer built is_live).1) is_live;
+      closed = λ request. request_stays history entry request keeps;
+      moves = λ consumer is_live. mailbox_moved history entry consumer (ap is_context_owner (live_of_context history consumer stored is_live).1) is_live;
     }
 
 -- ## Whom it reaches
@@ -124,10 +124,10 @@ reaches_at history address consumer is_live =
 abbrev parcels_for : List Traced → Message → List Consumer → List Parcel
 parcels_for history message all = map (parcel_for message) (map recipient_of (map (handler_of history) all))
 
-recipients_are : (bus : BusStore) (history : List Traced) (address : List ℕ) → AreBuilt history → BusStands bus history →
+recipients_are : (bus : BusStore) (history : List Traced) (address : List ℕ) → AreStored history → BusStands bus history →
     map recipient_of (filter (λ (h : Handler). is_accepted (next_arrival h)) (filter (is_handler_at address) bus.consumers))
     ≡ map recipient_of (map (handler_of history) (filter (λ consumer. is_accepted (arrival_at history consumer)) (handlers history address)))
-recipients_are bus history address built stands =
+recipients_are bus history address stored stands =
     let accepts = λ (h : Handler). is_accepted (next_arrival h) in
     let accepting_now = λ (consumer : Consumer). is_accepted (arrival_at history consumer) in
     ap (λ all. map recipient_of (filter accepts (filter (is_handler_at address) all))) stands.consumers
@@ -135,38 +135,38 @@ recipients_are bus history address built stands =
     ∙ ap (map recipient_of)
     (filter_mapped accepts accepting_now (handler_of history) (handlers history address)
     (weaken (IsLive history) (λ consumer. accepts (handler_of history consumer) ≡ accepting_now consumer) (handlers history address)
-    (λ consumer is_live. ap is_accepted (sym (arrives_here history consumer built is_live))) (handlers_live history address)))
+    (λ consumer is_live. ap is_accepted (sym (arrives_here history consumer stored is_live))) (handlers_live history address)))
 
-items_for : (history : List Traced) (message : Message) (place : ℕ) (all : List Consumer) → AreBuilt history → Each (IsLive history) all →
+items_for : (history : List Traced) (message : Message) (place : ℕ) (all : List Consumer) → AreStored history → Each (IsLive history) all →
     parcel_items (contexts_of.contexts history) (next_entry history) place (parcels_for history message (filter (λ consumer. is_accepted (arrival_at history consumer)) all))
     ≡ map (item_of history) (deliveries history message place (homes (filter (λ consumer. is_ready (arrival_at history consumer)) all)))
-items_for history message place [] built lives = refl
-items_for history message place (consumer ∷ others) built lives =
+items_for history message place [] stored lives = refl
+items_for history message place (consumer ∷ others) stored lives =
     let accepted = filter (λ c. is_accepted (arrival_at history c)) others in
     let ready = filter (λ c. is_ready (arrival_at history c)) others in
     let made = contexts_of.contexts history in
-    let owned = live_of_context history consumer built lives.0 in
+    let owned = live_of_context history consumer stored lives.0 in
     let kind = kinds.Deliver consumer.id message.id in
     let behind : ℕ → List Item = λ next. parcel_items made (next_entry history) next (parcels_for history message accepted) in
     let its : Option ContextId → List Item = λ home. home_item made (next_entry history) place home kind in
     let first : Arrive → List Item = λ a. cond (is_ready a) (its (context_owning consumer.owner)) [] ++ behind (cond (is_ready a) (place + 1) place) in
-    let here : next_arrival (handler_of history consumer) ≡ arrival_at history consumer = sym (arrives_here history consumer built lives.0) in
+    let here : next_arrival (handler_of history consumer) ≡ arrival_at history consumer = sym (arrives_here history consumer stored lives.0) in
     elim (arrival_at history consumer) as (λ a. arrival_at history consumer ≡ a →
     parcel_items made (next_entry history) place (parcels_for history message (cond (is_accepted a) (consumer ∷ accepted) accepted))
     ≡ map (item_of history) (deliveries history message place (homes (cond (is_ready a) (consumer ∷ ready) ready)))) [
       | arrives.Ready ↦ λ is_a. ap first (here ∙ is_a)
           ∙ ap (λ owner. its (context_owning owner) ++ behind (place + 1)) owned.1
-          ∙ ap (λ items. handler_item made (next_entry history) place owned.0 kind ∷ items) (items_for history message (place + 1) others built lives.1)
-          ∙ sym (home_first (λ all. map (item_of history) (deliveries history message place all)) history consumer ready built lives.0)
-      | arrives.Held ↦ λ is_a. ap first (here ∙ is_a) ∙ items_for history message place others built lives.1
-      | arrives.Lost ↦ λ is_a. items_for history message place others built lives.1
+          ∙ ap (λ items. handler_item made (next_entry history) place owned.0 kind ∷ items) (items_for history message (place + 1) others stored lives.1)
+          ∙ sym (home_first (λ all. map (item_of history) (deliveries history message place all)) history consumer ready stored lives.0)
+      | arrives.Held ↦ λ is_a. ap first (here ∙ is_a) ∙ items_for history message place others stored lives.1
+      | arrives.Lost ↦ λ is_a. items_for history message place others stored lives.1
     ] refl
 
-tasks_for : (history : List Traced) (message : Message) (all : List Consumer) → AreBuilt history → Each (IsLive history) all → map parcel_task (parcels_for history message all) ≡ delivery_tasks (Some message) (homes all)
-tasks_for history message [] built lives = refl
-tasks_for history message (consumer ∷ others) built lives =
-    ap (λ tasks. parcel_task (parcel_for message (recipient_of (handler_of history consumer))) ∷ tasks) (tasks_for history message others built lives.1)
-    ∙ sym (home_first (delivery_tasks (Some message)) history consumer others built lives.0)
+tasks_for : (history : List Traced) (message : Message) (all : List Consumer) → AreStored history → Each (IsLive history) all → map parcel_task (parcels_for history message all) ≡ delivery_tasks (Some message) (homes all)
+tasks_for history message [] stored lives = refl
+tasks_for history message (consumer ∷ others) stored lives =
+    ap (λ tasks. parcel_task (parcel_for message (recipient_of (handler_of history consumer))) ∷ tasks) (tasks_for history message others stored lives.1)
+    ∙ sym (home_first (delivery_tasks (Some message)) history consumer others stored lives.0)
 
 names_of : (history : List Traced) (all : List Consumer) → map (λ (r : Recipient). r.consumer) (map recipient_of (map (handler_of history) all)) ≡ ids_of all
 names_of history [] = refl
@@ -233,7 +233,7 @@ pub publishes_nothing : (contexts : ContextStore) (timers : List Timer) (bus : B
 publishes_nothing contexts timers bus history at pass address body options passage stands is_next accepted found never =
     let call = calls.Publish address body options in
     let entry = entry_of pass address body options [] in
-    let passed_entry = passed_publish history pass address body options [] stands.built in
+    let passed_entry = passed_publish history pass address body options [] stands.stored in
     let is_passage : passage ≡ passage_of (sent history call deeds.Nothing) (received history call deeds.Nothing) = found ∙ passage_is bus history at call address body options false true stands.bus is_next refl in
     let none : received history call deeds.Nothing ≡ None = stopped history (sent history call deeds.Nothing) (λ message is_one. never message (is_passage ∙ is_one)) in
     let nobody : reached history call deeds.Nothing ≡ [] = ap (λ o. cond (is_some o) (handlers history address) []) none in
@@ -249,7 +249,7 @@ publishes_nothing contexts timers bus history at pass address body options passa
       choices = λ a. stands.bus.choices a ∙ sym (choices_left history entry a passed_entry.consumers refl);
       tasks = sym (append-nil bus.tasks) ∙ ap (λ made. bus.tasks ++ made) (sym (append-nil _ ∙ ap (λ o. delivery_tasks o (homes (accepting history call deeds.Nothing))) none));
       opened = sym (append-nil bus.requests.waiting);
-      ended = λ id. stands.bus.ended id ∙ all_ended history id stands.built;
+      ended = λ id. stands.bus.ended id ∙ all_ended history id;
       given = λ id. refl;
       codecs = refl;
       rules = refl;
@@ -273,26 +273,26 @@ pub publishes : (contexts new_contexts : ContextStore) (timers : List Timer) (ol
 publishes contexts new_contexts timers old bus arrived_bus new_bus history at pass address body options passage message recipients parcels names was stands is_next accepted found arrives_now is_recipients is_parcels is_names is_arrived is_contexts is_bus =
     let call = calls.Publish address body options in
     let entry = entry_of pass address body options names in
-    let passed_entry = passed_publish history pass address body options names stands.built in
+    let passed_entry = passed_publish history pass address body options names stands.stored in
     let is_passage : passage ≡ passage_of (sent history call deeds.Nothing) (received history call deeds.Nothing) = found ∙ passage_is old history at call address body options false true was is_next refl in
     let is_message : received history call deeds.Nothing ≡ Some message = arrived_so (sent history call deeds.Nothing) (received history call deeds.Nothing) message (sym is_passage ∙ arrives_now) in
     let all : reached history call deeds.Nothing ≡ handlers history address = ap (λ o. cond (is_some o) (handlers history address) []) is_message in
     let accepters : accepting history call deeds.Nothing ≡ filter (λ consumer. is_accepted (arrival_at history consumer)) (handlers history address) = ap (filter (λ consumer. is_accepted (arrival_at history consumer))) all in
     let are : recipients ≡ map recipient_of (map (handler_of history) (accepting history call deeds.Nothing)) =
-    is_recipients ∙ recipients_are old history address stands.built was ∙ ap (λ cs. map recipient_of (map (handler_of history) cs)) (sym accepters) in
+    is_recipients ∙ recipients_are old history address stands.stored was ∙ ap (λ cs. map recipient_of (map (handler_of history) cs)) (sym accepters) in
     let each : parcels ≡ parcels_for history message (accepting history call deeds.Nothing) = is_parcels ∙ ap (map (parcel_for message)) are in
     let is_at_next : at ≡ next_entry history = ap (λ n. let e : EntryNo = record { 0 = n } in e) is_next in
     let items : parcel_items contexts.made at 0 parcels ≡ map (item_of history) (item_by history entry call) =
     ap (λ made. parcel_items made at 0 parcels) stands.contexts.made
     ∙ ap (λ e. parcel_items (contexts_of.contexts history) e 0 parcels) is_at_next
     ∙ ap (parcel_items (contexts_of.contexts history) (next_entry history) 0) (each ∙ ap (parcels_for history message) accepters)
-    ∙ items_for history message 0 (handlers history address) stands.built (handlers_live history address)
+    ∙ items_for history message 0 (handlers history address) stands.stored (handlers_live history address)
     ∙ ap (λ cs. map (item_of history) (deliveries history message 0 (homes (filter (λ consumer. is_ready (arrival_at history consumer)) cs)))) (sym all)
     ∙ ap (λ o. map (item_of history) (delivered history o (homes (readied history call deeds.Nothing)))) (sym is_message)
     ∙ ap (map (item_of history)) (sym (append-nil _)) in
     let made : map parcel_task parcels ≡ delivery_tasks (received history call deeds.Nothing) (homes (accepting history call deeds.Nothing)) =
     ap (map parcel_task) each
-    ∙ tasks_for history message (accepting history call deeds.Nothing) stands.built (accepting_live history call deeds.Nothing)
+    ∙ tasks_for history message (accepting history call deeds.Nothing) stands.stored (accepting_live history call deeds.Nothing)
     ∙ ap (λ o. delivery_tasks o (homes (accepting history call deeds.Nothing))) (sym is_message) in
     let same_rings : new_bus.rings ≡ bus.rings = ap (λ (s : BusStore). s.rings) is_bus ∙ ap (λ (s : BusStore). s.rings) is_arrived in
     let reaches_them : (consumer : Consumer) → IsLive history consumer → is_at address consumer ≡ reaches history call deeds.Nothing consumer.id = λ consumer is_live.
@@ -307,7 +307,7 @@ publishes contexts new_contexts timers old bus arrived_bus new_bus history at pa
       choices = λ a. ap (choices_at a) same_rings ∙ stands.bus.choices a ∙ sym (choices_left history entry a passed_entry.consumers refl);
       tasks = ap (λ (s : BusStore). s.tasks) is_bus ∙ ap (λ (s : BusStore). s.tasks ++ map parcel_task parcels) is_arrived ∙ ap (λ xs. bus.tasks ++ xs) (made ∙ sym (append-nil _));
       opened = ap (λ (s : BusStore). s.requests.waiting) is_bus ∙ ap (λ (s : BusStore). s.requests.waiting) is_arrived ∙ sym (append-nil bus.requests.waiting);
-      ended = λ id. ap (λ (s : BusStore). ended_at id s.requests.ended) is_bus ∙ ap (λ (s : BusStore). ended_at id s.requests.ended) is_arrived ∙ stands.bus.ended id ∙ all_ended history id stands.built;
+      ended = λ id. ap (λ (s : BusStore). ended_at id s.requests.ended) is_bus ∙ ap (λ (s : BusStore). ended_at id s.requests.ended) is_arrived ∙ stands.bus.ended id ∙ all_ended history id;
       given = λ id. ap (λ (s : BusStore). given_at id s.given) is_bus ∙ ap (λ (s : BusStore). given_at id s.given) is_arrived;
       codecs = ap (λ (s : BusStore). s.codecs) is_bus ∙ ap (λ (s : BusStore). s.codecs) is_arrived;
       rules = ap (λ (s : BusStore). s.rules) is_bus ∙ ap (λ (s : BusStore). s.rules) is_arrived;

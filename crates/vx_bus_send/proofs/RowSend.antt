@@ -14,13 +14,14 @@ use Rattle.vx_call.specs.declared.reply.Reply.TheVariants as replies
 use Rattle.vx_call.specs.declared.reply.To.{To}
 use Rattle.vx_call.specs.declared.history.Traced.{Traced}
 use Rattle.vx_call.specs.History.{plain_entry, no_mark}
-use Rattle.vx_call.specs.Built.{IsBuilt, AreBuilt}
+use Rattle.vx_call.specs.Built.{AreStored}
 use Rattle.vx_call.specs.Owners.{is_context_owner}
 use Rattle.vx_call.specs.Requests.{unsettled, by_due}
 use Rattle.vx_call.specs.Items.{item_by}
 use Rattle.vx_call.specs.Refusals.{unless_refused}
 use Rattle.vx_call.specs.Rows.{destination, send_refusal}
-use Rattle.vx_call.proofs.Built.{live_of_context}
+use Rattle.vx_call.proofs.Stored.{live_of_context}
+use Rattle.vx_call.proofs.KeepsOpen.{KeepsOpen, call_keeps}
 use Rattle.vx_call.proofs.Mailboxes.{mailbox_moved}
 use Rattle.vx_context.specs.Stores.{ContextStore, item_of}
 use Rattle.vx_context.specs.Stands.{IsNext}
@@ -36,14 +37,13 @@ use Rattle.vx_bus_send.proofs.Sending.{IsFound, found_true, choices_passed, same
 abbrev entry_of : PassNo → List ℕ → Tree → Options → To → Traced
 entry_of pass address body options to = plain_entry pass (calls.Send address body options) (replies.Sent to) no_mark
 
-passed_send : (history : List Traced) (pass : PassNo) (address : List ℕ) (body : Tree) (options : Options) (to : To) → AreBuilt history → IsPassed history (entry_of pass address body options to) (calls.Send address body options)
-passed_send history pass address body options to built =
+passed_send : (history : List Traced) (pass : PassNo) (address : List ℕ) (body : Tree) (options : Options) (to : To) → AreStored history → IsPassed history (entry_of pass address body options to) (calls.Send address body options)
+passed_send history pass address body options to stored =
     let entry = entry_of pass address body options to in
-    let one : IsBuilt entry = record { call = refl; mark = refl } in
+    let keeps : KeepsOpen history entry = call_keeps history entry (record { call = refl; mark = refl }) refl in
     record {
-      built = one;
-      contexts = record { items = record { contexts = refl; queued = refl }; pools = refl; held = refl; finished = λ held. refl };
-      consumers = record { registered = refl; kept = λ consumer. consumer_kept history entry consumer built one refl };
+      contexts = record { keeps = keeps; items = record { contexts = refl; queued = refl }; pools = refl; held = refl; finished = λ held. refl };
+      consumers = record { registered = refl; kept = λ consumer. consumer_kept history entry consumer keeps refl };
       given = refl;
       codecs = record { added = refl; kept = λ codec. refl };
       rules = record { added = refl; kept = λ rule. refl };
@@ -53,8 +53,8 @@ passed_send history pass address body options to built =
       kept = λ item. refl;
       settled = refl;
       opened = refl;
-      closed = λ request. request_stays history pass (calls.Send address body options) request built refl;
-      moves = λ consumer is_live. mailbox_moved history entry consumer (ap is_context_owner (live_of_context history consumer built is_live).1) is_live;
+      closed = λ request. request_stays history entry request keeps;
+      moves = λ consumer is_live. mailbox_moved history entry consumer (ap is_context_owner (live_of_context history consumer stored is_live).1) is_live;
     }
 
 -- a message is sent, and reaches what the bus found
@@ -65,8 +65,8 @@ pub sends : (contexts new_contexts : ContextStore) (timers : List Timer) (old bu
 sends contexts new_contexts timers old bus new_bus history at pass address body options passage to was stands is_next small accepted found passes =
     let call = calls.Send address body options in
     let entry = entry_of pass address body options to in
-    let passed = passed_send history pass address body options to stands.built in
-    let is_true = found_true old history at call address body options false passage to stands.built was is_next refl found in
+    let passed = passed_send history pass address body options to stands.stored in
+    let is_true = found_true old history at call address body options false passage to stands.stored was is_next refl found in
     let Small : ℕ → Type 0 = λ n. n < 2 ^ 48 in
     let choices = choices_passed contexts new_contexts bus bus new_bus history entry at call address passage to stands.bus (subst Small is_next small) (consumers_left history entry passed.consumers) refl passes is_true refl in
     let timers_stay = stands.timers ∙ ap (λ requests. map timer_of (by_due requests)) (sym (append-nil (unsettled history))) in
@@ -80,12 +80,12 @@ sends contexts new_contexts timers old bus new_bus history at pass address body 
           record {
             items = same_items contexts new_contexts history (item_by history entry call) (passes.contexts nobody.elsewhere) (append-nil _ ∙ missed_items history call to nobody);
             timers = timers_stay;
-            consumers = ap (λ (s : BusStore). s.consumers) same ∙ stands.bus.consumers ∙ consumers_missed history entry call to stands.built passed nobody;
+            consumers = ap (λ (s : BusStore). s.consumers) same ∙ stands.bus.consumers ∙ consumers_missed history entry call to stands.stored passed nobody;
             in_turn = passes.in_turn;
             choices = choices;
             tasks = ap (λ (s : BusStore). s.tasks) same ∙ sym (append-nil bus.tasks) ∙ ap (λ made. bus.tasks ++ made) (sym (append-nil _ ∙ missed_tasks history call to nobody));
             opened = ap (λ (s : BusStore). s.requests.waiting) same ∙ sym (append-nil bus.requests.waiting);
-            ended = λ id. ap (λ (s : BusStore). ended_at id s.requests.ended) same ∙ stands.bus.ended id ∙ all_ended history id stands.built;
+            ended = λ id. ap (λ (s : BusStore). ended_at id s.requests.ended) same ∙ stands.bus.ended id ∙ all_ended history id;
             given = λ id. ap (λ (s : BusStore). given_at id s.given) same;
             codecs = ap (λ (s : BusStore). s.codecs) same;
             rules = ap (λ (s : BusStore). s.rules) same;
@@ -97,14 +97,14 @@ sends contexts new_contexts timers old bus new_bus history at pass address body 
           record {
             items = done.items
                 ∙ ap (λ items. record contexts { waiting = contexts.waiting ++ items; room = new_contexts.room })
-                (met_items contexts history call address to at stands.built stands.contexts one is_next ∙ ap (map (item_of history)) (sym (append-nil _)));
+                (met_items contexts history call address to at stands.stored stands.contexts one is_next ∙ ap (map (item_of history)) (sym (append-nil _)));
             timers = timers_stay;
             consumers = ap (λ (s : BusStore). s.consumers) done.bus ∙ ap (map (changed one.consumer.id arrived)) stands.bus.consumers ∙ consumers_met history entry call one.consumer passed one.alone;
             in_turn = passes.in_turn;
             choices = choices;
-            tasks = ap (λ (s : BusStore). s.tasks) done.bus ∙ ap (λ made. bus.tasks ++ made) (sym (append-nil _ ∙ met_tasks history call address to stands.built one));
+            tasks = ap (λ (s : BusStore). s.tasks) done.bus ∙ ap (λ made. bus.tasks ++ made) (sym (append-nil _ ∙ met_tasks history call address to stands.stored one));
             opened = ap (λ (s : BusStore). s.requests.waiting) done.bus ∙ sym (append-nil bus.requests.waiting);
-            ended = λ id. ap (λ (s : BusStore). ended_at id s.requests.ended) done.bus ∙ stands.bus.ended id ∙ all_ended history id stands.built;
+            ended = λ id. ap (λ (s : BusStore). ended_at id s.requests.ended) done.bus ∙ stands.bus.ended id ∙ all_ended history id;
             given = λ id. ap (λ (s : BusStore). given_at id s.given) done.bus;
             codecs = ap (λ (s : BusStore). s.codecs) done.bus;
             rules = ap (λ (s : BusStore). s.rules) done.bus;

@@ -2,7 +2,7 @@
 use Rattle.std.proofs.Common.{◌≡◌, ℕ, ◌+◌, ◌-◌, ◌<◌, ◌^◌, min, List, [], ◌∷◌, ◌++◌, length, refl, ap, sym, ◌∙◌, subst}
 use Rattle.std.specs.Prelude.{Bool, true, false, not, ◌&&◌, cond, filter, find, map, is_some, Option, None, Some}
 use Rattle.std.specs.List.{cons_option}
-use Rattle.std.specs.Option.{option_map, option_and_then}
+use Rattle.std.specs.Option.{option_map, option_and_then, option_or}
 use Rattle.std.specs.Str.{bytes_eq}
 use Rattle.std.proofs.lemmas.List.{append-nil}
 use Rattle.vx_data.specs.declared.ids.EntryNo.{EntryNo}
@@ -21,7 +21,7 @@ use Rattle.vx_call.specs.declared.reply.To.{To}
 use Rattle.vx_call.specs.declared.history.Consumer.{Consumer}
 use Rattle.vx_call.specs.declared.history.Deed.TheVariants as deeds
 use Rattle.vx_call.specs.declared.history.Traced.{Traced}
-use Rattle.vx_call.specs.Built.{AreBuilt}
+use Rattle.vx_call.specs.Built.{AreStored}
 use Rattle.vx_call.specs.History.{made_by, lasting}
 use Rattle.vx_call.specs.Consumers.{consumers}
 use Rattle.vx_call.specs.Choices.{choice_kind, chosen_at, choices}
@@ -38,7 +38,7 @@ use Rattle.vx_context.specs.Stores.{ContextStore, item_of}
 use Rattle.vx_context.specs.Stands.{ContextsStand, IsNext}
 use Rattle.vx_call.proofs.Arrivals.{choice_live}
 use Rattle.vx_call.proofs.Settlings.{is_settled_as}
-use Rattle.vx_call.proofs.Built.{settled_by_outcome}
+use Rattle.vx_call.proofs.Dropped.{or_none}
 use Rattle.vx_ring.specs.Rings as rings
 use Rattle.vx_ring.specs.Rings.{RingAt, consumers_at, choices_at}
 use Rattle.vx_bus_delivery.specs.declared.passages.Passage.{Passage}
@@ -78,13 +78,13 @@ pub record IsTrue (history : List Traced) (call : Call) (address : List ℕ) (pa
   pub passes : passage ≡ passage_of (sent history call deeds.Nothing) (received history call deeds.Nothing)
   pub goes : to ≡ destination history call address
 
-pub found_true : (bus : BusStore) (history : List Traced) (at : EntryNo) (call : Call) (address : List ℕ) (body : Tree) (options : Options) (request : Bool) (passage : Passage) (to : To) → AreBuilt history → BusStands bus history → IsNext at history →
+pub found_true : (bus : BusStore) (history : List Traced) (at : EntryNo) (call : Call) (address : List ℕ) (body : Tree) (options : Options) (request : Bool) (passage : Passage) (to : To) → AreStored history → BusStands bus history → IsNext at history →
     message_of history call deeds.Nothing ≡ Some (message_to history address body options request false) → IsFound bus at address body options request passage to → IsTrue history call address passage to
-found_true bus history at call address body options request passage to built stands is_next is_message found =
+found_true bus history at call address body options request passage to stored stands is_next is_message found =
     let is_passage = found.passes ∙ passage_is bus history at call address body options request false stands is_next is_message in
     record {
       passes = is_passage;
-      goes = found.goes ∙ ap (λ p. destination_in bus p address) is_passage ∙ destination_is bus history call address built stands;
+      goes = found.goes ∙ ap (λ p. destination_in bus p address) is_passage ∙ destination_is bus history call address stored stands;
     }
 
 -- the choices then
@@ -110,8 +110,8 @@ same_items contexts new_contexts history call_items is_new none =
     ∙ ap (λ room. record contexts { waiting = contexts.waiting ++ map (item_of history) call_items; room = room }) (sym (ap (λ (s : ContextStore). s.room) is_new))
 
 -- the requests that have ended, where none ends
-pub all_ended : (history : List Traced) (id : MessageId) → AreBuilt history → settled_at history id ≡ option_map at_of (find (is_settled_as id) (lasting settled_kind history ++ []))
-all_ended history id built = settled_by_outcome history id built ∙ ap (λ all. option_map at_of (find (is_settled_as id) all)) (sym (append-nil (lasting settled_kind history)))
+pub all_ended : (history : List Traced) (id : MessageId) → settled_at history id ≡ option_or (settled_at history id) None
+all_ended history id = sym (or_none (settled_at history id))
 
 -- ## Nobody accepts it
 
@@ -135,12 +135,12 @@ pub met_accepting : (history : List Traced) (call : Call) (address : List ℕ) (
 met_accepting history call address to meets =
     ap (filter (λ consumer. is_accepted (arrival_at history consumer))) meets.alone ∙ ap (λ b. cond b (meets.consumer ∷ []) []) meets.accepts
 
-pub met_tasks : (history : List Traced) (call : Call) (address : List ℕ) (to : To) → AreBuilt history → (meets : Meets history call address to) →
+pub met_tasks : (history : List Traced) (call : Call) (address : List ℕ) (to : To) → AreStored history → (meets : Meets history call address to) →
     delivery_tasks (received history call deeds.Nothing) (homes (accepting history call deeds.Nothing)) ≡ tasks.Deliver meets.consumer.id meets.message ∷ []
-met_tasks history call address to built meets =
+met_tasks history call address to stored meets =
     ap (λ o. delivery_tasks o (homes (accepting history call deeds.Nothing))) meets.received
     ∙ ap (λ cs. delivery_tasks (Some meets.message) (homes cs)) (met_accepting history call address to meets)
-    ∙ home_first (delivery_tasks (Some meets.message)) history meets.consumer [] built (choice_live history address meets.consumer meets.chosen)
+    ∙ home_first (delivery_tasks (Some meets.message)) history meets.consumer [] stored (choice_live history address meets.consumer meets.chosen)
 
 one_item : (history : List Traced) (message : Message) (consumer : Consumer) (b : Bool) →
     cond b (home_item (contexts history) (next_entry history) 0 (context_owning consumer.owner) (kinds.Deliver consumer.id message.id)) []
@@ -150,15 +150,15 @@ one_item history message consumer true =
     ≡ map (item_of history) (deliveries history message 0 (cons_option (option_map (home_with consumer) o) []))) [ None ↦ refl | Some context ↦ refl ]
 one_item history message consumer false = refl
 
-pub met_items : (store : ContextStore) (history : List Traced) (call : Call) (address : List ℕ) (to : To) (at : EntryNo) → AreBuilt history → ContextsStand store history → (meets : Meets history call address to) → IsNext at history →
+pub met_items : (store : ContextStore) (history : List Traced) (call : Call) (address : List ℕ) (to : To) (at : EntryNo) → AreStored history → ContextsStand store history → (meets : Meets history call address to) → IsNext at history →
     ready_item store.made at 0 (recipient_of (handler_of history meets.consumer)) meets.message.id ≡ map (item_of history) (delivered history (received history call deeds.Nothing) (homes (readied history call deeds.Nothing)))
-met_items store history call address to at built stands meets is_next =
+met_items store history call address to at stored stands meets is_next =
     let consumer = meets.consumer in
     let entry : ℕ → EntryNo = λ n. record { 0 = n } in
     let item : Arrive → List Item = λ a. cond (is_ready a) (home_item (contexts history) (next_entry history) 0 (context_owning consumer.owner) (kinds.Deliver consumer.id meets.message.id)) [] in
     ap (λ (all : List Context). ready_item all at 0 (recipient_of (handler_of history consumer)) meets.message.id) stands.made
     ∙ ap (λ n. ready_item (contexts history) (entry n) 0 (recipient_of (handler_of history consumer)) meets.message.id) is_next
-    ∙ ap item (sym (arrives_here history consumer built (choice_live history address consumer meets.chosen)))
+    ∙ ap item (sym (arrives_here history consumer stored (choice_live history address consumer meets.chosen)))
     ∙ one_item history meets.message consumer (is_ready (arrival_at history consumer))
     ∙ sym (ap (λ cs. map (item_of history) (delivered history (Some meets.message) (homes cs))) (ap (filter (λ c. is_ready (arrival_at history c))) meets.alone))
     ∙ sym (ap (λ o. map (item_of history) (delivered history o (homes (readied history call deeds.Nothing)))) meets.received)

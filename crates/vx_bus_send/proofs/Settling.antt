@@ -31,7 +31,7 @@ use Rattle.vx_call.specs.declared.reply.Task.TheVariants as tasks
 use Rattle.vx_call.specs.declared.reply.Task.{Task}
 use Rattle.vx_call.specs.declared.history.Traced.{Traced}
 use Rattle.vx_call.specs.History.{made_by, ended_by, lasting, plain_entry, no_mark}
-use Rattle.vx_call.specs.Built.{IsBuilt, AreBuilt}
+use Rattle.vx_call.specs.Built.{AreStored}
 use Rattle.vx_data.specs.Ids.{same_message}
 use Rattle.vx_call.specs.Names.{next_entry}
 use Rattle.vx_call.specs.Contexts.{contexts}
@@ -51,7 +51,9 @@ use Rattle.vx_call.proofs.Lasting.{lasting-append, lasting_more}
 use Rattle.vx_call.proofs.Found.{find_passes}
 use Rattle.vx_call.proofs.Each.{Each}
 use Rattle.vx_call.proofs.Apart.{Apart}
-use Rattle.vx_call.proofs.Built.{IsAskedByContext, built_more, unsettled_of_contexts, settled_by_outcome}
+use Rattle.vx_call.proofs.Stored.{IsAskedByContext, stored_more, unsettled_of_contexts}
+use Rattle.vx_call.proofs.KeepsOpen.{KeepsOpen, call_keeps}
+use Rattle.vx_call.proofs.Dropped.{ended_among, settled_at_kept}
 use Rattle.vx_call.proofs.Mailboxes.{mailbox_unmoved}
 use Rattle.vx_call.proofs.Opened.{same_open, unsettled_apart}
 use Rattle.vx_call.proofs.Settlings.{settled-append}
@@ -117,7 +119,7 @@ row_there : (bus : BusStore) (history : List Traced) (id : MessageId) → BusSta
 row_there bus history id stands = ap (find (is_request id)) stands.opened ∙ find-map row_of (is_one id) (is_request id) (λ request. refl) (unsettled history)
 
 -- the context that asked, if one did
-abbrev asker_of : Option Open → Option ContextId
+abbrev pub asker_of : Option Open → Option ContextId
 asker_of None = None
 asker_of (Some request) = context_asking request.asker
 
@@ -129,14 +131,13 @@ asker_in_row : (found : Option Open) → asker_in (option_map row_of found) ≡ 
 asker_in_row None = refl
 asker_in_row (Some request) = owner_of request.asker
 
-asker_known : (bus : BusStore) (history : List Traced) (id : MessageId) → BusStands bus history → ending.asker_there id bus ≡ asker_of (one_open history id)
+pub asker_known : (bus : BusStore) (history : List Traced) (id : MessageId) → BusStands bus history → ending.asker_there id bus ≡ asker_of (one_open history id)
 asker_known bus history id stands = ap asker_in (row_there bus history id stands) ∙ asker_in_row (one_open history id)
 
 -- ## What the entry is
 
 -- an entry that settles the request with this outcome where it is open, opens these requests, and does no more
 pub record Ends (history : List Traced) (new : Traced) (request : MessageId) (outcome : Outcome) (opens : List Open) : Type 0 where
-  pub built : IsBuilt new
   pub contexts : KeepsContexts history new
   pub consumers : LeavesConsumers history new
   pub numbers : LeavesNumbers history new
@@ -208,15 +209,15 @@ timers_of timers request before opens (Some found) is_found is_timers asked othe
     ∙ filter-map (λ timer. not (is_named request.0 timer)) timer_of (by_due (before ++ opens))
     ∙ ap (map timer_of) (sym (by_due-filter stays (before ++ opens)) ∙ ap by_due (filter-append stays before opens ∙ ap (λ rest. filter stays before ++ rest) (others found refl)))
 
-pub timers_settled : (old new_timers : List Timer) (bus : BusStore) (history : List Traced) (new : Traced) (request : MessageId) (outcome : Outcome) (opens : List Open) → AreBuilt history →
+pub timers_settled : (old new_timers : List Timer) (bus : BusStore) (history : List Traced) (new : Traced) (request : MessageId) (outcome : Outcome) (opens : List Open) → AreStored history →
     Ends history new request outcome opens → BusStands bus history → old ≡ map timer_of (by_due (unsettled history ++ opens)) →
     ((found : Open) → one_open history request ≡ Some found → filter (λ one. not (is_one request one)) opens ≡ opens) →
     new_timers ≡ ending.without_timer request (ending.asker_there request bus) old → TimersStand new_timers (history ++ new ∷ [])
-timers_settled old new_timers bus history new request outcome opens built ends stands is_old others is_new =
+timers_settled old new_timers bus history new request outcome opens stored ends stands is_old others is_new =
     is_new
     ∙ ap (λ asker. ending.without_timer request asker old) (asker_known bus history request stands)
     ∙ timers_of old request (unsettled history) opens (one_open history request) refl is_old
-    (λ one is_found. found_each IsAskedByContext (is_one request) (unsettled history) one (unsettled_of_contexts history built) is_found) others
+    (λ one is_found. found_each IsAskedByContext (is_one request) (unsettled history) one (unsettled_of_contexts history stored) is_found) others
     ∙ sym (ap (λ requests. map timer_of (by_due requests)) (left_open history new request outcome opens ends))
 
 -- ## The bus
@@ -254,28 +255,23 @@ ended_of history at id other outcome (Some request) is_next same =
     ∙ ap (λ n. cond ((other.0.0 == request.id.0.0) && true) (Some (let entry : EntryNo = record { 0 = n } in entry)) None) is_next
     ∙ elim (other.0.0 == request.id.0.0) as (λ b. cond (b && true) (Some (next_entry history)) None ≡ option_map at_of (cond b (Some (settlement history outcome request)) None)) [ true ↦ refl | false ↦ refl ]
 
-more_ended : (bus : BusStore) (history : List Traced) (new : Traced) (at : EntryNo) (id other : MessageId) (outcome : Outcome) (opens : List Open) → AreBuilt history → Ends history new id outcome opens → IsNext at history → BusStands bus history →
+more_ended : (bus : BusStore) (history : List Traced) (new : Traced) (at : EntryNo) (id other : MessageId) (outcome : Outcome) (opens : List Open) → AreStored history → Ends history new id outcome opens → IsNext at history → BusStands bus history →
     option_or (ended_at other bus.requests.ended) (cond (same_message other id && is_some (find (is_request id) bus.requests.waiting)) (Some at) None) ≡ settled_at (history ++ new ∷ []) other
-more_ended bus history new at id other outcome opens built ends is_next stands =
-    let test : Settled → Bool = λ s. same_message other s.request in
-    let made = settlements history outcome (option_to_list (one_open history id)) in
-    ap (λ known. option_or known (cond (same_message other id && is_some (find (is_request id) bus.requests.waiting)) (Some at) None)) (stands.ended other ∙ settled_by_outcome history other built)
-    ∙ ap (λ row. option_or (option_map at_of (settled history other)) (cond (same_message other id && is_some row) (Some at) None)) (row_there bus history id stands)
-    ∙ ap (option_or (option_map at_of (settled history other))) (ended_of history at id other outcome (one_open history id) is_next (found_name history id))
-    ∙ sym (option_map-or at_of (settled history other) (find test made))
-    ∙ ap (option_map at_of) (sym (find-append test (lasting settled_kind history) made))
-    ∙ ap (λ all. option_map at_of (find test all))
-    (sym (settled-append history new ∙ ap (λ all. lasting settled_kind history ++ all) (ends.settled ∙ ap (settlements history outcome) (filter_one id (unsettled history) (unsettled_apart history)))))
-    ∙ sym (settled_by_outcome (history ++ new ∷ []) other (built_more history new built ends.built))
+more_ended bus history new at id other outcome opens stored ends is_next stands =
+    ap (λ known. option_or known (cond (same_message other id && is_some (find (is_request id) bus.requests.waiting)) (Some at) None)) (stands.ended other)
+    ∙ ap (λ row. option_or (settled_at history other) (cond (same_message other id && is_some row) (Some at) None)) (row_there bus history id stands)
+    ∙ ap (option_or (settled_at history other)) (ended_of history at id other outcome (one_open history id) is_next (found_name history id))
+    ∙ ap (λ all. option_or (settled_at history other) (ended_among other all)) (sym (ends.settled ∙ ap (settlements history outcome) (filter_one id (unsettled history) (unsettled_apart history))))
+    ∙ sym (settled_at_kept history new other stored ends.contexts.keeps)
 
-pub bus_settled : (old new_store : BusStore) (history : List Traced) (new : Traced) (at : EntryNo) (request : MessageId) (outcome : Outcome) (opens : List Open) → AreBuilt history →
+pub bus_settled : (old new_store : BusStore) (history : List Traced) (new : Traced) (at : EntryNo) (request : MessageId) (outcome : Outcome) (opens : List Open) → AreStored history →
     Ends history new request outcome opens → IsNext at history → BusStands old history →
     new_store ≡ record old { requests = new_store.requests; tasks = old.tasks ++ ending.outcome_tasks request outcome (ending.asker_there request old); room = new_store.room } →
     new_store.requests.waiting ≡ filter (λ row. not (is_request request row)) old.requests.waiting ++ map row_of opens →
     ((id : MessageId) → ended_at id new_store.requests.ended
     ≡ option_or (ended_at id old.requests.ended) (cond (same_message id request && is_some (find (is_request request) old.requests.waiting)) (Some at) None)) →
     BusStands new_store (history ++ new ∷ [])
-bus_settled old new_store history new at request outcome opens built ends is_next stands is_new is_left is_ended =
+bus_settled old new_store history new at request outcome opens stored ends is_next stands is_new is_left is_ended =
     let stays : Open → Bool = λ one. not (is_one request one) in
     record {
       consumers = ap (λ (s : BusStore). s.consumers) is_new ∙ stands.consumers ∙ sym (handlers_left history new ends.consumers ends.numbers);
@@ -290,7 +286,7 @@ bus_settled old new_store history new at request outcome opens built ends is_nex
           ∙ ap (λ rows. filter (λ row. not (is_request request row)) rows ++ map row_of opens) stands.opened
           ∙ ap (λ rows. rows ++ map row_of opens) (filter-map (λ row. not (is_request request row)) row_of (unsettled history))
           ∙ sym (ap (map row_of) (left_open history new request outcome opens ends) ∙ map-append row_of (filter stays (unsettled history)) opens);
-      ended = λ id. is_ended id ∙ more_ended old history new at request id outcome opens built ends is_next stands;
+      ended = λ id. is_ended id ∙ more_ended old history new at request id outcome opens stored ends is_next stands;
       given = λ id. ap (λ (s : BusStore). given_at id s.given) is_new ∙ stands.given id ∙ sym (given_left history new id ends.given);
       codecs = ap (λ (s : BusStore). s.codecs) is_new ∙ stands.codecs ∙ sym (codecs_left history new ends.codecs);
       rules = ap (λ (s : BusStore). s.rules) is_new ∙ stands.rules ∙ sym (rules_left history new ends.rules);
@@ -306,11 +302,11 @@ follows_settled contexts new_contexts timers new_timers bus new_bus history at p
     record {
       answered = answered;
       stores = record {
-        built = built_more history entry stands.built ends.built;
+        stored = stored_more history entry stands.stored ends.contexts.keeps.stored;
         contexts = contexts_settled contexts new_contexts bus history entry at request outcome [] ends is_next stands.contexts stands.bus settles.items;
-        timers = timers_settled timers new_timers bus history entry request outcome [] stands.built ends stands.bus
+        timers = timers_settled timers new_timers bus history entry request outcome [] stands.stored ends stands.bus
             (stands.timers ∙ ap (λ requests. map timer_of (by_due requests)) (sym (append-nil (unsettled history)))) (λ found is_found. refl) settles.timers;
-        bus = bus_settled bus new_bus history entry at request outcome [] stands.built ends is_next stands.bus settles.tasks (settles.left ∙ sym (append-nil _)) settles.ended;
+        bus = bus_settled bus new_bus history entry at request outcome [] stands.stored ends is_next stands.bus settles.tasks (settles.left ∙ sym (append-nil _)) settles.ended;
       };
     }
 
@@ -321,16 +317,15 @@ pub coded_same : (bus : BusStore) (history : List Traced) (codec : Option (List 
 coded_same bus history None body stands = refl
 coded_same bus history (Some name) body stands = ap (λ codecs. coded_by (find (is_codec name) codecs) body) stands.codecs
 
-pub ends_reply : (history : List Traced) (pass : PassNo) (message : MessageId) (body : Tree) (options : Options) → AreBuilt history →
+pub ends_reply : (history : List Traced) (pass : PassNo) (message : MessageId) (body : Tree) (options : Options) →
     Ends history (plain_entry pass (calls.Reply message body options) replies.Done no_mark) message (replied history body options None) []
-ends_reply history pass message body options built =
+ends_reply history pass message body options =
     let entry = plain_entry pass (calls.Reply message body options) replies.Done no_mark in
-    let one : IsBuilt entry = record { call = refl; mark = refl } in
+    let keeps : KeepsOpen history entry = call_keeps history entry (record { call = refl; mark = refl }) refl in
     record {
-      built = one;
-      contexts = record { items = record { contexts = refl; queued = refl }; pools = refl; held = refl; finished = λ held. refl };
-      consumers = record { registered = refl; kept = λ consumer. consumer_kept history entry consumer built one refl };
-      numbers = numbers_left history entry (λ consumer. mailbox_unmoved history entry consumer (ap (λ b. move_if b moves.ends) (consumer_kept history entry consumer built one refl)));
+      contexts = record { keeps = keeps; items = record { contexts = refl; queued = refl }; pools = refl; held = refl; finished = λ held. refl };
+      consumers = record { registered = refl; kept = λ consumer. consumer_kept history entry consumer keeps refl };
+      numbers = numbers_left history entry (λ consumer. mailbox_unmoved history entry consumer (ap (λ b. move_if b moves.ends) (consumer_kept history entry consumer keeps refl)));
       choices = refl;
       given = refl;
       codecs = record { added = refl; kept = λ codec. refl };
@@ -344,16 +339,15 @@ ends_reply history pass message body options built =
       closed = λ request. settled_alone (is_one message request) request.asker;
     }
 
-pub ends_fail : (history : List Traced) (pass : PassNo) (message : MessageId) (code : ℤ) (text : List ℕ) → AreBuilt history →
+pub ends_fail : (history : List Traced) (pass : PassNo) (message : MessageId) (code : ℤ) (text : List ℕ) →
     Ends history (plain_entry pass (calls.Fail message code text) replies.Done no_mark) message (failed failures.RecipientFailure code text) []
-ends_fail history pass message code text built =
+ends_fail history pass message code text =
     let entry = plain_entry pass (calls.Fail message code text) replies.Done no_mark in
-    let one : IsBuilt entry = record { call = refl; mark = refl } in
+    let keeps : KeepsOpen history entry = call_keeps history entry (record { call = refl; mark = refl }) refl in
     record {
-      built = one;
-      contexts = record { items = record { contexts = refl; queued = refl }; pools = refl; held = refl; finished = λ held. refl };
-      consumers = record { registered = refl; kept = λ consumer. consumer_kept history entry consumer built one refl };
-      numbers = numbers_left history entry (λ consumer. mailbox_unmoved history entry consumer (ap (λ b. move_if b moves.ends) (consumer_kept history entry consumer built one refl)));
+      contexts = record { keeps = keeps; items = record { contexts = refl; queued = refl }; pools = refl; held = refl; finished = λ held. refl };
+      consumers = record { registered = refl; kept = λ consumer. consumer_kept history entry consumer keeps refl };
+      numbers = numbers_left history entry (λ consumer. mailbox_unmoved history entry consumer (ap (λ b. move_if b moves.ends) (consumer_kept history entry consumer keeps refl)));
       choices = refl;
       given = refl;
       codecs = record { added = refl; kept = λ codec. refl };

@@ -46,7 +46,7 @@ pub fn publish(
     ensures back { IfErr result (λ unmade. unmade.call ≡ Call.Publish address body options) }
     ensures places { HavePlaces contexts.new bus.new }
 {
-    if let Some(refusal) = send_refusal(bus, &address, &body, &options) {
+    if let Some(refusal) = send_refusal(contexts, bus, pass, &address, &body, &options) {
         return Ok(Reply::Refused(refusal));
     }
     match publish_on(contexts, timers, bus, at, pass, &address, &body, &options) {

@@ -14,7 +14,8 @@ use vx_bus_store::Bus;
 use vx_call::{Call, Options, Reply, To, Unmade};
 use vx_context::Contexts;
 use vx_data::{Body, ContextId, EntryNo, MessageId, NoMemory, PassNo};
-use vx_message::Outcome;
+use vx_message::{Outcome, Owner};
+use vx_request::OpenRequest;
 use vx_timer::Timers;
 
 /// Replies to a request, and asks for a reply to this reply. `now` is the moment of the history, in ms.
@@ -48,8 +49,14 @@ pub fn reply_request(
     let due = now + timeout;
     match prepare_reply(contexts, timers, bus, at, due, &body, &options) {
         Ok(outcome) => {
+            let home = bus.asker(message);
             settle(contexts, timers, bus, at, message, outcome);
-            bus.open(MessageId(at), context, None);
+            bus.open(OpenRequest {
+                id: MessageId(at),
+                asker: Owner::Context(context),
+                receiver: None,
+                home,
+            });
             Ok(Reply::Asked(To::Asker))
         }
         Err(NoMemory) => Err(Unmade {

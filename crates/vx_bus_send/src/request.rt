@@ -17,6 +17,8 @@ use vx_bus_store::Bus;
 use vx_call::{Call, Options, Reply, To, Unmade};
 use vx_context::Contexts;
 use vx_data::{Body, ContextId, EntryNo, MessageId, NoMemory, PassNo, Text};
+use vx_message::Owner;
+use vx_request::OpenRequest;
 use vx_timer::Timers;
 
 /// Sends a request to the consumer whose turn it is. `now` is the moment of the history, in ms.
@@ -91,9 +93,15 @@ fn ask(
     let to = destination(bus, &passage, address);
     match to {
         To::Consumer(consumer) => {
+            let home = bus.home(consumer);
             prepare_request(contexts, timers, bus, at, due, 1)?;
             pass_on(contexts, bus, at, passage, address, to);
-            bus.open(MessageId(at), context, Some(consumer));
+            bus.open(OpenRequest {
+                id: MessageId(at),
+                asker: Owner::Context(context),
+                receiver: Some(consumer),
+                home,
+            });
         }
         _ => {
             ask_nobody(contexts, bus, at, context)?;

@@ -37,7 +37,7 @@ pub fn send(
     ensures back { IfErr result (λ unmade. unmade.call ≡ Call.Send address body options) }
     ensures places { HavePlaces contexts.new bus.new }
 {
-    if let Some(refusal) = send_refusal(bus, &address, &body, &options) {
+    if let Some(refusal) = send_refusal(contexts, bus, pass, &address, &body, &options) {
         return Ok(Reply::Refused(refusal));
     }
     match send_on(contexts, timers, bus, at, pass, &address, &body, &options) {

@@ -25,8 +25,9 @@ use Rattle.vx_call.specs.declared.history.Consumer.{Consumer}
 use Rattle.vx_call.specs.declared.history.Traced.{Traced}
 use Rattle.vx_call.specs.History.{made_by, ended_by, is_accepted, plain_entry, no_mark}
 use Rattle.vx_call.specs.declared.history.Mark.{Mark}
-use Rattle.vx_call.specs.Built.{is_built, IsBuilt, AreBuilt}
+use Rattle.vx_call.specs.Built.{is_stored, IsStored, AreStored}
 use Rattle.vx_call.specs.Connections.{is_one_of}
+use Rattle.vx_call.specs.Closings.{closing_kind}
 use Rattle.vx_call.specs.Contexts.{context_kind}
 use Rattle.vx_call.specs.Consumers.{ends_by_name, closes_owner, consumer_kind, consumers, handlers, is_at}
 use Rattle.vx_call.specs.Pools.{pool_kind, pools}
@@ -37,13 +38,15 @@ use Rattle.vx_call.specs.Rules.{rule_kind, rules}
 use Rattle.vx_call.specs.Choices.{choice_kind, choices, is_empty}
 use Rattle.vx_call.specs.Given.{given_kind, given}
 use Rattle.vx_call.specs.Requests.{Open, open_kind, unsettled, by_due}
-use Rattle.vx_call.specs.Settled.{Settled, settled_kind, settled, settled_at}
+use Rattle.vx_call.specs.Settled.{Settled, settled_kind, settled, dropped_kind, settled_at}
 use Rattle.vx_call.specs.Items.{Waiting, item_kind, waiting, task_kind, untaken}
 use Rattle.vx_call.specs.Held.{held_kind}
 use Rattle.vx_call.specs.Rows.{ids_of}
 use Rattle.vx_call.specs.Machine.{row}
 use Rattle.vx_call.proofs.Lasting.{lasting_same, and_false}
-use Rattle.vx_call.proofs.Built.{built_more, closes_none, settled_by_outcome}
+use Rattle.vx_call.proofs.Stored.{stored_more}
+use Rattle.vx_call.proofs.KeepsOpen.{KeepsOpen, closed_left}
+use Rattle.vx_call.proofs.Dropped.{settled_at_left}
 use Rattle.vx_call.proofs.Each.{weaken}
 use Rattle.vx_call.proofs.Consumers.{IsLive, consumers_live}
 use Rattle.vx_call.proofs.Mailboxes.{mailbox_same}
@@ -71,9 +74,10 @@ waiting_left history new leaves = lasting_same item_kind history new leaves.none
 pub pools_stay : (history : List Traced) (new : Traced) → made_by pool_kind history new ≡ [] → pools (history ++ new ∷ []) ≡ pools history
 pools_stay history new none = lasting_same pool_kind history new none (λ pool. and_false (is_accepted new.entry.reply))
 
--- an entry that makes no context and no pool, hands no code to a context, hands out no task, finishes none and leaves those
+-- an entry that makes and closes no context, makes no pool, hands no code to a context, hands out no task, finishes none and leaves those
 -- that wait
 pub record LeavesContexts (history : List Traced) (new : Traced) : Type 0 where
+  pub closings : made_by closing_kind history new ≡ []
   pub items : LeavesItems history new
   pub pools : made_by pool_kind history new ≡ []
   pub held : made_by held_kind history new ≡ []
@@ -83,6 +87,7 @@ pub record LeavesContexts (history : List Traced) (new : Traced) : Type 0 where
 pub contexts_left : (store : ContextStore) (history : List Traced) (new : Traced) → LeavesContexts history new → ContextsStand store history → ContextsStand store (history ++ new ∷ [])
 contexts_left store history new leaves stands = record {
   made = stands.made ∙ sym (contexts_stay history new leaves.items.contexts);
+  closings = λ id. stands.closings id ∙ sym (closed_left history new id leaves.closings);
   held = stands.held ∙ sym (lasting_same held_kind history new leaves.held leaves.finished);
   pools = stands.pools ∙ sym (pools_stay history new leaves.pools);
   waiting =
@@ -114,28 +119,28 @@ pub consumers_left : (history : List Traced) (new : Traced) → LeavesConsumers 
 consumers_left history new leaves = lasting_same consumer_kind history new leaves.registered leaves.kept
 
 -- no owner is closed
-pub owner_open : (history : List Traced) (new : Traced) (owner : Owner) → AreBuilt history → IsBuilt new → closes_owner history new.entry.pass new.entry.call new.mark owner ≡ false
-owner_open history new (owners.Context context) built one = closes_none history new.entry.pass new.entry.call context built one.call
-owner_open history new (owners.Conn conn) built one = ap (λ (mark : Mark). is_one_of mark.shut conn) one.mark
-owner_open history new (owners.Pass pass) built one = refl
+pub owner_open : (history : List Traced) (new : Traced) (owner : Owner) → KeepsOpen history new → closes_owner history new.entry.pass new.entry.call new.mark owner ≡ false
+owner_open history new (owners.Context context) keeps = keeps.closes context
+owner_open history new (owners.Conn conn) keeps = ap (λ (mark : Mark). is_one_of mark.shut conn) keeps.stored.mark
+owner_open history new (owners.Pass pass) keeps = refl
 
 or_false : (b : Bool) → (b || false) ≡ b
 or_false true = refl
 or_false false = refl
 
 -- so a consumer is ended by its name alone
-pub ended_by_name : (history : List Traced) (new : Traced) (consumer : Consumer) → AreBuilt history → IsBuilt new →
+pub ended_by_name : (history : List Traced) (new : Traced) (consumer : Consumer) → KeepsOpen history new →
     ended_by consumer_kind history new consumer ≡ (is_accepted new.entry.reply && ends_by_name new.entry.call new.mark.deed consumer.id)
-ended_by_name history new consumer built one =
+ended_by_name history new consumer keeps =
     let named = ends_by_name new.entry.call new.mark.deed consumer.id in
-    ap (λ b. is_accepted new.entry.reply && (named || b)) (owner_open history new consumer.owner built one)
+    ap (λ b. is_accepted new.entry.reply && (named || b)) (owner_open history new consumer.owner keeps)
     ∙ ap (λ b. is_accepted new.entry.reply && b) (or_false named)
 
 -- ... and by no call that ends none by name
-pub consumer_kept : (history : List Traced) (new : Traced) (consumer : Consumer) → AreBuilt history → IsBuilt new → ends_by_name new.entry.call new.mark.deed consumer.id ≡ false →
+pub consumer_kept : (history : List Traced) (new : Traced) (consumer : Consumer) → KeepsOpen history new → ends_by_name new.entry.call new.mark.deed consumer.id ≡ false →
     ended_by consumer_kind history new consumer ≡ false
-consumer_kept history new consumer built one none =
-    ended_by_name history new consumer built one ∙ ap (λ b. is_accepted new.entry.reply && b) none ∙ and_false (is_accepted new.entry.reply)
+consumer_kept history new consumer keeps none =
+    ended_by_name history new consumer keeps ∙ ap (λ b. is_accepted new.entry.reply && b) none ∙ and_false (is_accepted new.entry.reply)
 
 -- an entry that leaves the numbers of each live consumer's mailbox
 abbrev pub LeavesNumbers : List Traced → Traced → Type 0
@@ -195,15 +200,6 @@ never_settled history new settled = and_false (is_accepted new.entry.reply)
 pub outcome_left : (history : List Traced) (new : Traced) (id : MessageId) → made_by settled_kind history new ≡ [] → settled (history ++ new ∷ []) id ≡ settled history id
 outcome_left history new id none = ap (find (λ (s : Settled). same_message id s.request)) (lasting_same settled_kind history new none (never_settled history new))
 
--- where requests end with an outcome alone
-pub ended_by_outcome : (history : List Traced) (new : Traced) (id : MessageId) → AreBuilt history → IsBuilt new → (end : Option Settled) → settled (history ++ new ∷ []) id ≡ end →
-    settled_at (history ++ new ∷ []) id ≡ option_map (λ (s : Settled). s.at) end
-ended_by_outcome history new id built one end is = settled_by_outcome (history ++ new ∷ []) id (built_more history new built one) ∙ ap (option_map (λ (s : Settled). s.at)) is
-
-pub ended_left : (history : List Traced) (new : Traced) (id : MessageId) → AreBuilt history → IsBuilt new → made_by settled_kind history new ≡ [] → settled_at (history ++ new ∷ []) id ≡ settled_at history id
-ended_left history new id built one none =
-    ended_by_outcome history new id built one (settled history id) (outcome_left history new id none) ∙ sym (settled_by_outcome history id built)
-
 pub never_taken_back : (history : List Traced) (new : Traced) (given : Given) → ended_by given_kind history new given ≡ false
 never_taken_back history new given = and_false (is_accepted new.entry.reply)
 
@@ -238,18 +234,19 @@ pub record LeavesBus (history : List Traced) (new : Traced) : Type 0 where
   pub tasks : LeavesTasks history new
   pub requests : LeavesRequests history new
   pub settled : made_by settled_kind history new ≡ []
+  pub dropped : made_by dropped_kind history new ≡ []
   pub given : made_by given_kind history new ≡ []
   pub codecs : LeavesCodecs history new
   pub rules : LeavesRules history new
 
-pub bus_left : (store : BusStore) (history : List Traced) (new : Traced) → AreBuilt history → IsBuilt new → LeavesBus history new → BusStands store history → BusStands store (history ++ new ∷ [])
-bus_left store history new built one leaves stands = record {
+pub bus_left : (store : BusStore) (history : List Traced) (new : Traced) → AreStored history → LeavesBus history new → BusStands store history → BusStands store (history ++ new ∷ [])
+bus_left store history new stored leaves stands = record {
   consumers = stands.consumers ∙ sym (handlers_left history new leaves.consumers leaves.numbers);
   rings = λ address. stands.rings address ∙ sym (rings_left history new address leaves.consumers);
   choices = λ address. stands.choices address ∙ sym (choices_left history new address leaves.consumers leaves.choices);
   tasks = stands.tasks ∙ sym (tasks_left history new leaves.tasks);
   opened = stands.opened ∙ ap (map row_of) (sym (requests_left history new leaves.requests));
-  ended = λ id. stands.ended id ∙ sym (ended_left history new id built one leaves.settled);
+  ended = λ id. stands.ended id ∙ sym (settled_at_left history new id stored leaves.dropped leaves.settled);
   given = λ id. stands.given id ∙ sym (given_left history new id leaves.given);
   codecs = stands.codecs ∙ sym (codecs_left history new leaves.codecs);
   rules = stands.rules ∙ sym (rules_left history new leaves.rules);
@@ -261,7 +258,7 @@ bus_left store history new built one leaves stands = record {
 pub refused_contexts : (store : ContextStore) (history : List Traced) (pass : PassNo) (call : Call) (refusal : Refusal) → ContextsStand store history →
     ContextsStand store (history ++ plain_entry pass call (replies.Refused refusal) no_mark ∷ [])
 refused_contexts store history pass call refusal stands = contexts_left store history (plain_entry pass call (replies.Refused refusal) no_mark)
-    (record { items = record { contexts = refl; queued = refl }; pools = refl; held = refl; finished = λ h. refl; waiting = record { none = refl; kept = λ w. refl } }) stands
+    (record { closings = refl; items = record { contexts = refl; queued = refl }; pools = refl; held = refl; finished = λ h. refl; waiting = record { none = refl; kept = λ w. refl } }) stands
 
 -- ... and the bus
 pub refused_bus : (history : List Traced) (pass : PassNo) (call : Call) (refusal : Refusal) → LeavesBus history (plain_entry pass call (replies.Refused refusal) no_mark)
@@ -272,26 +269,27 @@ refused_bus history pass call refusal = record {
   tasks = record { made = refl; kept = λ t. refl };
   requests = record { opened = refl; settled = λ r. refl };
   settled = refl;
+  dropped = refl;
   given = refl;
   codecs = record { added = refl; kept = λ c. refl };
   rules = record { added = refl; kept = λ r. refl };
 }
 
 -- a refused call leaves all stores
-pub refused_stores : (contexts : ContextStore) (timers : List Timer) (bus : BusStore) (history : List Traced) (pass : PassNo) (call : Call) (refusal : Refusal) → is_built call ≡ true → StoresStand contexts timers bus history →
+pub refused_stores : (contexts : ContextStore) (timers : List Timer) (bus : BusStore) (history : List Traced) (pass : PassNo) (call : Call) (refusal : Refusal) → is_stored call ≡ true → StoresStand contexts timers bus history →
     StoresStand contexts timers bus (history ++ plain_entry pass call (replies.Refused refusal) no_mark ∷ [])
 refused_stores contexts timers bus history pass call refusal is stands =
     let entry = plain_entry pass call (replies.Refused refusal) no_mark in
-    let one : IsBuilt entry = record { call = is; mark = refl } in
+    let one : IsStored entry = record { call = is; mark = refl } in
     record {
-      built = built_more history entry stands.built one;
+      stored = stored_more history entry stands.stored one;
       contexts = refused_contexts contexts history pass call refusal stands.contexts;
       timers = timers_left timers history entry (record { opened = refl; settled = λ r. refl }) stands.timers;
-      bus = bus_left bus history entry stands.built one (refused_bus history pass call refusal) stands.bus;
+      bus = bus_left bus history entry stands.stored (refused_bus history pass call refusal) stands.bus;
     }
 
 -- a refused call follows, where the refusal is that of its row
-pub follows_refused : (contexts : ContextStore) (timers : List Timer) (bus : BusStore) (history : List Traced) (pass : PassNo) (call : Call) (refusal : Refusal) → is_built call ≡ true → StoresStand contexts timers bus history →
+pub follows_refused : (contexts : ContextStore) (timers : List Timer) (bus : BusStore) (history : List Traced) (pass : PassNo) (call : Call) (refusal : Refusal) → is_stored call ≡ true → StoresStand contexts timers bus history →
     replies.Refused refusal ≡ row history pass call → Follows contexts timers bus history pass call (replies.Refused refusal)
 follows_refused contexts timers bus history pass call refusal is stands answered =
     record { answered = answered; stores = refused_stores contexts timers bus history pass call refusal is stands }

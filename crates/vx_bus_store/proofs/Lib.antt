@@ -2,8 +2,9 @@ pub mod Images
 pub mod Frames
 pub mod Handlers
 pub mod Positions
-pub mod Changes
 pub mod HeldCounts
 pub mod Limits
 pub mod KeptRequests
 pub mod Kept
+pub mod Turns
+pub mod LiveChoices

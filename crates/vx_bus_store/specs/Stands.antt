@@ -16,7 +16,7 @@ use Rattle.vx_call.specs.Given.{given}
 use Rattle.vx_call.specs.Requests.{unsettled, by_due}
 use Rattle.vx_call.specs.Time.{now}
 use Rattle.vx_call.specs.Settled.{settled_at}
-use Rattle.vx_call.specs.Built.{AreBuilt}
+use Rattle.vx_call.specs.Built.{AreStored}
 use Rattle.vx_call.specs.Codecs.{codecs}
 use Rattle.vx_call.specs.Rules.{rules}
 use Rattle.vx_call.specs.Items.{untaken}
@@ -43,9 +43,9 @@ pub record BusStands (store : BusStore) (history : List Traced) : Type 0 where
 abbrev pub TimersStand : List Timer → List Traced → Type 0
 TimersStand timers history = timers ≡ map timer_of (by_due (unsettled history))
 
--- all three are those of the history, whose calls are those that have a body
+-- all three are those of the history, whose calls are those of the event bus and of verticles
 pub record StoresStand (context_store : ContextStore) (timer_list : List Timer) (bus_store : BusStore) (history : List Traced) : Type 0 where
-  pub built : AreBuilt history
+  pub stored : AreStored history
   pub contexts : ContextsStand context_store history
   pub timers : TimersStand timer_list history
   pub bus : BusStands bus_store history

@@ -71,6 +71,11 @@ handler_in handlers id = find (names id) handlers
 abbrev pub is_handler_at : List ℕ → Handler → Bool
 is_handler_at address handler = is_at address handler.consumer
 
+-- the context whose handler its messages are for
+abbrev pub home_in : Option Handler → Option ContextId
+home_in None = None
+home_in (Some handler) = context_owning handler.consumer.owner
+
 -- a change of the flow of one consumer
 abbrev pub changed : ConsumerId → (Counted → Counted) → Handler → Handler
 changed id change handler = if names id handler then record { consumer = handler.consumer; flow = change handler.flow } else handler
@@ -144,7 +149,7 @@ owner_asking (askers.connection conn at) = owners.Conn conn
 
 -- what the bus keeps of a request that waits
 abbrev pub row_of : Open → OpenRequest
-row_of request = record { id = request.id; asker = owner_asking request.asker; receiver = request.receiver }
+row_of request = record { id = request.id; asker = owner_asking request.asker; receiver = request.receiver; home = request.home }
 
 -- the timer of a request that waits
 abbrev pub timer_of : Open → Timer

@@ -4,10 +4,10 @@ ghost use Rattle.std.specs.Str.{bytes_eq};
 ghost use Rattle.vx_data.specs.declared.ids.MessageId.{MessageId};
 ghost use Rattle.vx_message.specs.declared.Given.{Given};
 ghost use Rattle.vx_message.specs.declared.ItemKind.TheVariants as kinds;
-ghost use Rattle.vx_message.specs.declared.Owner.TheVariants as owners;
 ghost use Rattle.vx_ring.specs.Rings.{is_empty, consumers_at, choices_at};
 ghost use Rattle.vx_request.specs.declared.requests.OpenRequest.{OpenRequest};
-ghost use Rattle.vx_request.specs.Stores.{is_request, ended_at, given_at, is_lost};
+ghost use Rattle.vx_request.specs.Leaving.{ends_with, fails_with};
+ghost use Rattle.vx_request.specs.Stores.{is_request, ended_at, given_at};
 ghost use Rattle.vx_bus_store.specs.declared.bus.Handler.{Handler};
 ghost use Rattle.vx_call.specs.declared.reply.Task.{Task};
 ghost use Rattle.vx_data.specs.Ids.{same_message, same_consumer};
@@ -16,7 +16,7 @@ ghost use Rattle.vx_call.specs.Mailboxes.{is_accepted};
 ghost use Rattle.vx_call.specs.Given.{given_by_task};
 ghost use Rattle.vx_call.specs.Items.{is_for};
 ghost use Rattle.vx_call.specs.Owners.{context_owning};
-ghost use Rattle.vx_bus_store.specs.Stores.{is_of_kind, is_kept_by_bus, has_task, without_first, recipient_of, asker_in, names, handler_in, is_handler_at, next_arrival, IsEmptyBus};
+ghost use Rattle.vx_bus_store.specs.Stores.{is_of_kind, is_kept_by_bus, has_task, without_first, recipient_of, asker_in, home_in, names, handler_in, is_handler_at, next_arrival, IsEmptyBus};
 
 use std::alloc::Global;
 use std::marker::Model;
@@ -24,7 +24,7 @@ use vx_call::{Consumer, Task};
 use vx_consumer::{Arrive, Flow};
 use vx_data::{ConsumerId, ContextId, EntryNo, MessageId, NoMemory, Text};
 use vx_message::{Given, ItemKind, Outcome, Owner};
-use vx_request::{GivenOut, OpenRequest, Requests, is_lost};
+use vx_request::{GivenOut, Leaver, OpenRequest, Requests, ends_with, fails_with};
 use vx_ring::Rings;
 use vx_rules::{Codecs, Rules};
 
@@ -51,7 +51,7 @@ pub struct Handler {
 #[derive(Drop)]
 pub struct Bus {
     pub(crate) handlers: Vec<Handler>,
-    rings: Rings,
+    pub(crate) rings: Rings,
     pub(crate) tasks: Vec<Task>,
     requests: Requests,
     given: GivenOut,
@@ -122,6 +122,16 @@ impl Bus {
         ensures { result ≡ option_map recipient_of (handler_in self.now.consumers id) }
     {
         handler_of(&self.handlers, id).map(recipient_of)
+    }
+
+    /// The context whose handler a consumer's messages are for, none where it is a connection's or is not there.
+    pub fn home(&self, id: ConsumerId) -> Option<ContextId>
+        ensures { result ≡ home_in (handler_in self.now.consumers id) }
+    {
+        match handler_of(&self.handlers, id) {
+            Some(handler) => home_of(handler.consumer.owner),
+            None => None,
+        }
     }
 
     /// The consumers at an address that would accept a message now, in order of registration.
@@ -249,11 +259,28 @@ impl Bus {
         self.requests.waiting()[index]
     }
 
-    /// Whether a request reached the consumer, and no handler was given it.
-    pub fn is_lost(&self, row: &OpenRequest, consumer: ConsumerId) -> bool
-        ensures { result ≡ is_lost consumer self.now.given row.now }
+    /// The context that waits for the outcome of a request, where it is open.
+    pub fn asker(&self, id: MessageId) -> Option<ContextId>
+        ensures { result ≡ asker_in (find (is_request id) self.now.requests.waiting) }
     {
-        is_lost(row, consumer, &self.given)
+        match self.requests.asker(id) {
+            Some(asker) => home_of(asker),
+            None => None,
+        }
+    }
+
+    /// Whether a request ends with what leaves.
+    pub fn ends_with(&self, row: &OpenRequest, leaver: Leaver) -> bool
+        ensures { result ≡ ends_with leaver self.now.given row.now }
+    {
+        ends_with(row, leaver, &self.given)
+    }
+
+    /// Whether a request ends with what leaves, and its asker stays.
+    pub fn fails_with(&self, row: &OpenRequest, leaver: Leaver) -> bool
+        ensures { result ≡ fails_with leaver self.now.given row.now }
+    {
+        fails_with(row, leaver, &self.given)
     }
 
     /// Makes room for one more request.
@@ -265,15 +292,11 @@ impl Bus {
     }
 
     /// Opens a request, for which there is room.
-    pub fn open(&mut self, id: MessageId, asker: ContextId, receiver: Option<ConsumerId>)
+    pub fn open(&mut self, row: OpenRequest)
         requires { 0 < self.old.requests.room }
-        ensures { self.new ≡ record self.old { requests = record self.old.requests { waiting = self.old.requests.waiting ++ record { id = id; asker = owners.Context asker; receiver = receiver } ∷ []; room = self.new.requests.room } } }
+        ensures { self.new ≡ record self.old { requests = record self.old.requests { waiting = self.old.requests.waiting ++ row ∷ []; room = self.new.requests.room } } }
     {
-        let asker = Owner::Context(asker);
-        match receiver {
-            Some(consumer) => self.requests.open_to(id, asker, consumer).unwrap(),
-            None => self.requests.open(id, asker).unwrap(),
-        }
+        self.requests.open(row).unwrap();
     }
 
     /// Ends a request, and says who asked, if it was open.
@@ -300,13 +323,13 @@ impl Bus {
         self.requests.end_unheard(id, at)
     }
 
-    /// Ends the requests that reached a consumer and that no handler was given.
-    pub fn end_lost(&mut self, consumer: ConsumerId, at: EntryNo)
+    /// Ends the requests that end with what leaves.
+    pub fn end_with(&mut self, leaver: Leaver, at: EntryNo)
         ensures same { self.new ≡ record self.old { requests = self.new.requests } }
-        ensures left { self.new.requests.waiting ≡ filter (λ row. not (is_lost consumer self.old.given row)) self.old.requests.waiting }
-        ensures ended { (m : MessageId) → ended_at m self.new.requests.ended ≡ option_or (ended_at m self.old.requests.ended) (option_map (λ _. at) (find (is_request m) (filter (is_lost consumer self.old.given) self.old.requests.waiting))) }
+        ensures left { self.new.requests.waiting ≡ filter (λ row. not (ends_with leaver self.old.given row)) self.old.requests.waiting }
+        ensures ended { (m : MessageId) → ended_at m self.new.requests.ended ≡ option_or (ended_at m self.old.requests.ended) (option_map (λ _. at) (find (is_request m) (filter (ends_with leaver self.old.given) self.old.requests.waiting))) }
     {
-        self.requests.end_lost(consumer, &self.given, at);
+        self.requests.end_with(leaver, &self.given, at);
     }
 
     /// The entry at which a request ended, if it did.
@@ -373,7 +396,7 @@ fn leave_turns(handlers: &Vec<Handler>, rings: &mut Rings, id: ConsumerId)
 }
 
 // The handler of this name.
-fn handler_of(handlers: &Vec<Handler>, id: ConsumerId) -> Option<&Handler>
+pub(crate) fn handler_of(handlers: &Vec<Handler>, id: ConsumerId) -> Option<&Handler>
     ensures { option_copied result ≡ handler_in handlers.now.items id }
 {
     handlers.iter().find(|handler| id == handler.consumer.id)

@@ -5,5 +5,6 @@
 mod bus;
 mod flows;
 mod interceptors;
+mod leaving;
 
 pub use bus::{Bus, Handler, Recipient, home_of, is_for};

@@ -1,4 +1,4 @@
--- What an Advance makes ready in a history of the calls that the hub makes so far: the outcomes of the requests whose
+-- What an Advance makes ready in a history of calls whose effects the stores keep: the outcomes of the requests whose
 -- time is up, in their order.
 use Rattle.std.proofs.Common.{◌≡◌, ℕ, ◌+◌, ◌<◌, List, [], ◌∷◌, ◌++◌, length, refl, ap, sym, ◌∙◌, arith}
 use Rattle.std.specs.Prelude.{Bool, true, false, ◌==◌, ◌&&◌, ◌||◌, nat_le, nat_lt, max, not, cond, filter, map, Some}
@@ -25,25 +25,25 @@ use Rattle.vx_call.specs.Homes.{heard}
 use Rattle.vx_call.specs.Due.{due_fire, due_task, due_request, is_before, put_due, in_order, fired}
 use Rattle.vx_call.specs.Lives.{ready_due}
 use Rattle.vx_call.specs.Items.{Waiting, outcome_items, placed, item_by}
-use Rattle.vx_call.specs.Built.{is_built, AreBuilt}
+use Rattle.vx_call.specs.Built.{is_stored, AreStored}
 use Rattle.vx_call.proofs.Each.{Each, Each-filter}
 use Rattle.vx_call.proofs.Apart.{Apart, made_if}
 use Rattle.vx_call.proofs.Rising.{IsRising, lasting_rising}
 use Rattle.vx_call.proofs.Opened.{same_open, open_key, open_stays_apart, Each-by_due}
-use Rattle.vx_call.proofs.Built.{IsAskedByContext, unsettled_of_contexts, all_timed_out, none_made}
+use Rattle.vx_call.proofs.Stored.{none_ever, IsAskedByContext, unsettled_of_contexts, all_timed_out}
 
 -- ## No timer fires
 
-none_set : (history : List Traced) (call : Call) → is_built call ≡ true → timer_made history call ≡ []
-none_set history (calls.SetTimer context delay periodic) built = absurd cc
-none_set history _ built = refl
+none_set : (history : List Traced) (call : Call) → is_stored call ≡ true → timer_made history call ≡ []
+none_set history (calls.SetTimer context delay periodic) stored = absurd cc
+none_set history _ stored = refl
 
-pub no_timers : (history : List Traced) → AreBuilt history → timers history ≡ []
-no_timers = none_made timer_kind (λ history new rest built. none_set history new.entry.call built)
+pub no_timers : (history : List Traced) → AreStored history → timers history ≡ []
+no_timers = none_ever timer_kind (λ history new rest stored. none_set history new.entry.call stored)
 
-pub none_fires : (history : List Traced) (moment : ℕ) → AreBuilt history → firing history moment ≡ []
-none_fires history moment built =
-    ap (λ all. filter (λ (timer : Timer). not (fire_waits history timer.id)) (filter (comes_due (now history) (max (now history) moment)) all)) (no_timers history built)
+pub none_fires : (history : List Traced) (moment : ℕ) → AreStored history → firing history moment ≡ []
+none_fires history moment stored =
+    ap (λ all. filter (λ (timer : Timer). not (fire_waits history timer.id)) (filter (comes_due (now history) (max (now history) moment)) all)) (no_timers history stored)
 
 -- ## The open requests rise
 
@@ -113,23 +113,23 @@ items_alike history place (request ∷ others) asked =
     ∙ sym (ap (λ a. outcome_items place (cons_option (option_map (λ c. record { request = here.request; at = here.at; context = c; outcome = here.outcome }) (context_asking a)) behind)) asked.0.1)
 
 -- the outcomes of the requests whose time is up wait, in their order
-pub advance_items : (history : List Traced) (new : Traced) (moment : ℕ) → AreBuilt history →
+pub advance_items : (history : List Traced) (new : Traced) (moment : ℕ) → AreStored history →
     item_by history new (calls.Advance moment) ≡ outcome_items 0 (heard (settled_made history new.entry.pass (calls.Advance moment) new.mark.deed))
-advance_items history new moment built =
+advance_items history new moment stored =
     let pass = new.entry.pass in
     let up = settled_by history pass (calls.Advance moment) deeds.Nothing in
     let test = settles history pass (calls.Advance moment) deeds.Nothing in
-    let asked : Each IsAskedByContext up = Each-filter IsAskedByContext IsAskedByContext test (unsettled history) (λ request passes of. of) (unsettled_of_contexts history built) in
+    let asked : Each IsAskedByContext up = Each-filter IsAskedByContext IsAskedByContext test (unsettled history) (λ request passes of. of) (unsettled_of_contexts history stored) in
     let rising : IsRising open_key up = rising_filter test (unsettled history) (unsettled_rising history) in
     let in_turn : Each IsAskedByContext (by_due up) = Each-by_due IsAskedByContext up asked in
-    ap (λ timers_due. placed history 0 (ready_due (in_order (map (due_fire (now history)) timers_due ++ filter_map due_request up)))) (none_fires history moment built)
+    ap (λ timers_due. placed history 0 (ready_due (in_order (map (due_fire (now history)) timers_due ++ filter_map due_request up)))) (none_fires history moment stored)
     ∙ ap (λ all. placed history 0 (ready_due all)) (order_alike up rising asked)
     ∙ items_alike history 0 (by_due up) in_turn
     ∙ sym (ap (λ ended. outcome_items 0 (heard ended)) (all_timed_out history (by_due up) in_turn))
 
 -- and their number is that of the reply
-pub fired_count : (history : List Traced) (pass : PassNo) (moment : ℕ) → AreBuilt history → fired history pass moment ≡ length (settled_made history pass (calls.Advance moment) deeds.Nothing)
-fired_count history pass moment built =
+pub fired_count : (history : List Traced) (pass : PassNo) (moment : ℕ) → AreStored history → fired history pass moment ≡ length (settled_made history pass (calls.Advance moment) deeds.Nothing)
+fired_count history pass moment stored =
     let many = length (settled_made history pass (calls.Advance moment) deeds.Nothing) in
-    let none : length (firing history moment) ≡ 0 = ap (λ (all : List Timer). length all) (none_fires history moment built) in
+    let none : length (firing history moment) ≡ 0 = ap (λ (all : List Timer). length all) (none_fires history moment stored) in
     ap (λ n. n + many) none ∙ omega arith

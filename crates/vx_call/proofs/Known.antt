@@ -140,7 +140,7 @@ split_names test among true_test xs x y none some =
       | false ↦ λ differs. refl
     ] refl
 
-among_any : {A : Type 0} (test : A → Bool) (x : A) (xs : List A) → Among x xs → test x ≡ true → list_any test xs ≡ true
+pub among_any : {A : Type 0} (test : A → Bool) (x : A) (xs : List A) → Among x xs → test x ≡ true → list_any test xs ≡ true
 among_any test x [] among here = absurd among
 among_any test x (y ∷ ys) among here =
     elim among as (λ _. (test y || list_any test ys) ≡ true) [

@@ -3,6 +3,7 @@ pub mod Each
 pub mod Apart
 pub mod Filters
 pub mod Found
+pub mod Counts
 pub mod Contexts
 pub mod Lanes
 pub mod Quiet
@@ -39,5 +40,15 @@ pub mod Below
 pub mod Completed
 pub mod Skipping
 pub mod Unsettled
+pub mod Stored
+pub mod KeepsOpen
+pub mod Dropped
+pub mod Closed
 pub mod Built
 pub mod Advances
+pub mod Closing
+pub mod ClosedWith
+pub mod OpenAskers
+pub mod Told
+pub mod Asked
+pub mod FirstOutcomes

@@ -39,7 +39,7 @@ unheard history asker = record { request = next_message history; at = next_entry
 abbrev pub AnyOutcome : List Traced → (Settled → Type 0) → Open → Type 0
 AnyOutcome history P request = (outcome : Outcome) → P (settlement history outcome request)
 
-each_settlement : (P : Settled → Type 0) (history : List Traced) (outcome : Outcome) (requests : List Open) → Each (AnyOutcome history P) requests → Each P (settlements history outcome requests)
+pub each_settlement : (P : Settled → Type 0) (history : List Traced) (outcome : Outcome) (requests : List Open) → Each (AnyOutcome history P) requests → Each P (settlements history outcome requests)
 each_settlement P history outcome [] each = tt
 each_settlement P history outcome (request ∷ others) each = (each.0 outcome, each_settlement P history outcome others each.1)
 
@@ -53,7 +53,7 @@ each_closed P history pass call deed each =
     each_settlement P history no_handlers _ (Each-filter (AnyOutcome history P) (AnyOutcome history P) _ (settled_by history pass call deed) (λ request passes known. known) each)
 
 -- those whose time is up are some of them
-each_timed_out : (P : Settled → Type 0) (history : List Traced) (sent : Sent) (all : List Open) → Each (AnyOutcome history P) all → Each P (timed_out history sent all)
+pub each_timed_out : (P : Settled → Type 0) (history : List Traced) (sent : Sent) (all : List Open) → Each (AnyOutcome history P) all → Each P (timed_out history sent all)
 each_timed_out P history sent [] each = tt
 each_timed_out P history sent (request ∷ others) each =
     let next = send_all history sent (sending_of (settlement history timeout request)) in

@@ -1,4 +1,5 @@
--- Calls that the hub makes so far: those of the event bus. Each other one is defined, and no store has a body for it yet.
+-- Which calls have a body so far. The stores keep the effects of those of the event bus and of verticles; the hub makes those
+-- of the event bus. Each other one is defined.
 -- (This project's own.)
 use Rattle.std.specs.Prelude.{◌≡◌, Bool, true, false, not, ◌&&◌, List, [], ◌∷◌, Some}
 use Rattle.vx_call.specs.declared.call.Call.{Call}
@@ -41,15 +42,28 @@ is_of_connections (calls.TakeOut conn) = true
 is_of_connections (calls.CloseConn conn) = true
 is_of_connections _ = false
 
-abbrev pub is_built : Call → Bool
-is_built call = not (is_of_verticles call) && (not (hands_over call) && not (is_of_connections call))
+-- calls whose effects the stores keep: those of the event bus and of verticles
+abbrev pub is_stored : Call → Bool
+is_stored call = not (hands_over call) && not (is_of_connections call)
 
 -- an entry of such a call, which has nothing to do with connections
+pub record IsStored (new : Traced) : Type 0 where
+  pub call : is_stored new.entry.call ≡ true
+  pub mark : new.mark ≡ no_mark
+
+-- each entry of the history is one of them
+abbrev pub AreStored : List Traced → Type 0
+AreStored [] = Unit {0}
+AreStored (new ∷ others) = IsStored new × AreStored others
+
+-- calls that the hub makes so far: those of them that are not of verticles
+abbrev pub is_built : Call → Bool
+is_built call = not (is_of_verticles call) && is_stored call
+
 pub record IsBuilt (new : Traced) : Type 0 where
   pub call : is_built new.entry.call ≡ true
   pub mark : new.mark ≡ no_mark
 
--- each entry of the history is one of them
 abbrev pub AreBuilt : List Traced → Type 0
 AreBuilt [] = Unit {0}
 AreBuilt (new ∷ others) = IsBuilt new × AreBuilt others

@@ -1,6 +1,6 @@
 -- Entries that leave what the store keeps of each task that waits.
 use Rattle.std.proofs.Common.{◌≡◌, List, [], ◌∷◌, ◌++◌, refl, ap, ◌∙◌}
-use Rattle.std.specs.Prelude.{false, map, find, Option}
+use Rattle.std.specs.Prelude.{false, map, find}
 use Rattle.vx_message.specs.declared.Context.{Context}
 use Rattle.vx_message.specs.declared.Item.{Item}
 use Rattle.vx_message.specs.declared.Lane.{Lane}

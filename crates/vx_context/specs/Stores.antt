@@ -1,6 +1,7 @@
 -- What the store of contexts contains, however it keeps it.
-use Rattle.std.specs.Prelude.{ℕ, Bool, true, false, not, ◌&&◌, List, length, filter, find, Option, None, Some}
+use Rattle.std.specs.Prelude.{ℕ, Bool, true, false, not, ◌&&◌, if◌then◌else◌, List, length, filter, find, Option, None, Some}
 use Rattle.std.specs.List.{list_any}
+use Rattle.std.specs.Option.{option_or, option_and_then}
 use Rattle.vx_data.specs.declared.ids.ContextId.{ContextId}
 use Rattle.vx_data.specs.declared.ids.ConsumerId.{ConsumerId}
 use Rattle.vx_data.specs.declared.ids.EntryNo.{EntryNo}
@@ -24,14 +25,40 @@ use Rattle.vx_call.specs.Held.{is_of_context, context_held, ordered_context}
 use Rattle.vx_call.specs.Items.{Waiting}
 use Rattle.vx_call.specs.Kinds.{kind_of}
 use Rattle.vx_call.specs.Next.{is_full_of}
+use Rattle.vx_context.specs.declared.contexts.Kept.{Kept}
 
--- the contexts, the named pools, the tasks that are held and those that wait, and for how many more that wait there is room
+-- the contexts, the same with the entries that closed them, the named pools, the tasks that are held and those that wait, how
+-- many places are owed to tasks that come later, and for how many more that wait there is room
 pub record ContextStore : Type 0 where
   pub made : List Context
+  pub closings : List Kept
   pub pools : List Pool
   pub held : List Held
   pub waiting : List Item
+  pub owed : ℕ
   pub room : ℕ
+
+abbrev pub context_of : Kept → Context
+context_of kept = kept.context
+
+abbrev pub is_kept_of : ContextId → Kept → Bool
+is_kept_of id kept = is_context_of id kept.context
+
+-- the entry that closed a context
+abbrev pub closed_in : ContextId → List Kept → Option EntryNo
+closed_in id closings = option_and_then (λ (kept : Kept). kept.closed) (find (is_kept_of id) closings)
+
+-- a context that is closed at this entry, if it was open
+abbrev pub closed_then : EntryNo → Kept → Kept
+closed_then at kept = record { context = kept.context; closed = option_or kept.closed (Some at) }
+
+-- ... where it is the one of this name
+abbrev pub closed_by : ContextId → EntryNo → Kept → Kept
+closed_by id at kept = if is_kept_of id kept then closed_then at kept else kept
+
+-- a context that is open
+abbrev pub kept_open : Context → Kept
+kept_open context = record { context = context; closed = None }
 
 -- the lane of a context's tasks of a mode
 abbrev pub lane_in : Option Context → Mode → Lane

@@ -1,12 +1,13 @@
-ghost use Rattle.std.specs.Prelude.{◌≡◌, ◌+◌, ◌-◌, ◌<◌, ◌≤◌, ◌==◌, not, ◌&&◌, [], ◌∷◌, ◌++◌, length, filter, find, position, remove, slice_index_or, Some, OnOk, OnErr, vec_len, vec_capacity};
-ghost use Rattle.std.specs.Option.{option_map, option_and_then};
+ghost use Rattle.std.specs.Prelude.{◌≡◌, ◌+◌, ◌-◌, ◌<◌, ◌≤◌, ◌==◌, not, ◌&&◌, if◌then◌else◌, [], ◌∷◌, ◌++◌, length, map, filter, find, is_some, is_none, None, position, remove, slice_index_or, Some, OnOk, OnErr, vec_len, vec_capacity};
+ghost use Rattle.std.specs.Option.{option_copied, option_map, option_or, option_and_then};
+ghost use Rattle.vx_data.specs.Ids.{same_context};
 ghost use Rattle.vx_message.specs.declared.Held.{Held};
 ghost use Rattle.vx_message.specs.declared.Item.{Item};
 ghost use Rattle.vx_message.specs.declared.Mode.TheVariants as modes;
 ghost use Rattle.vx_message.specs.declared.Pool.{Pool};
 ghost use Rattle.vx_call.specs.Contexts.{is_context_of};
 ghost use Rattle.vx_call.specs.Held.{context_held, ordered_context, is_of_context};
-ghost use Rattle.vx_context.specs.Stores.{is_pool, runs_in, runs_ordered_in, may_run_in, is_full_in, is_held_on, is_ready, is_item_for, lane_in, handler_item};
+ghost use Rattle.vx_context.specs.Stores.{is_pool, runs_in, runs_ordered_in, may_run_in, is_full_in, is_held_on, is_ready, is_item_for, lane_in, handler_item, context_of, kept_open, is_kept_of, closed_in, closed_then, closed_by};
 
 use crate::lanes::same_lane;
 use std::alloc::Global;
@@ -14,53 +15,97 @@ use std::marker::Model;
 use vx_data::{ConsumerId, ContextId, EntryNo, NoMemory, PassNo, PoolId};
 use vx_message::{Context, Held, Item, ItemKind, Lane, Mode, Pool};
 
+/// A context, and the entry that closed it: none while it is open.
+#[derive(Drop)]
+pub struct Kept {
+    pub context: Context,
+    pub closed: Option<EntryNo>,
+}
+
+impl Kept {
+    // Closes the context at an entry, if it is open.
+    fn close(&mut self, at: EntryNo)
+        ensures { self.new ≡ closed_then at self.old }
+    {
+        self.closed = self.closed.or(Some(at));
+    }
+
+    // ... where it is the one of this name.
+    fn close_named(&mut self, id: ContextId, at: EntryNo)
+        ensures { self.new ≡ closed_by id at self.old }
+    {
+        if id == self.context.id {
+            self.close(at);
+        }
+    }
+}
+
 /// Contexts and named worker pools, in the order of making; the tasks that passes hold; the tasks that wait, by (entry,
 /// place). Each task that waits, and each that is yet to come and for which a place was reserved, can be put, taken and
-/// held without memory.
+/// held without memory. Places that are owed are kept for tasks that come later, however many others come before.
 #[derive(Drop)]
 pub struct Contexts {
-    contexts: Vec<Context>,
+    contexts: Vec<Kept>,
     pools: Vec<Pool>,
     held_tasks: Vec<Held>,
     items: Vec<Item>,
+    owed: usize,
 }
 
 impl Model for Contexts {
-    ghost use Rattle.std.specs.Prelude.{◌+◌, ◌-◌, ◌≤◌, min, vec_len, vec_capacity};
-    ghost use Rattle.vx_context.specs.Stores.{ContextStore};
+    ghost use Rattle.std.specs.Prelude.{◌+◌, ◌-◌, ◌≤◌, min, map, vec_len, vec_capacity};
+    ghost use Rattle.vx_context.specs.Stores.{ContextStore, context_of};
 
     ghost Value = { ContextStore };
 
     ghost view = { λ a. record {
-      made = a.contexts.items;
+      made = map context_of a.contexts.items;
+      closings = a.contexts.items;
       pools = a.pools.items;
       held = a.held_tasks.items;
       waiting = a.items.items;
-      room = min (vec_capacity a.items - vec_len a.items) (vec_capacity a.held_tasks - (vec_len a.held_tasks + vec_len a.items));
+      owed = a.owed;
+      room = min (vec_capacity a.items - vec_len a.items) (vec_capacity a.held_tasks - (vec_len a.held_tasks + vec_len a.items)) - a.owed;
     } };
 
-    ghost invariant = { λ a. vec_len a.held_tasks + vec_len a.items ≤ vec_capacity a.held_tasks };
+    ghost invariant = { λ a. (vec_len a.held_tasks + vec_len a.items + a.owed ≤ vec_capacity a.held_tasks) × (vec_len a.items + a.owed ≤ vec_capacity a.items) };
 }
 
 impl Contexts {
     /// No contexts. It takes no memory.
     pub fn new(alloc: Global) -> Contexts
-        ensures { result ≡ record { made = []; pools = []; held = []; waiting = []; room = 0 } }
+        ensures { result ≡ record { made = []; closings = []; pools = []; held = []; waiting = []; owed = 0; room = 0 } }
     {
         Contexts {
             contexts: Vec::new(alloc),
             pools: Vec::new(alloc),
             held_tasks: Vec::new(alloc),
             items: Vec::new(alloc),
+            owed: 0,
         }
     }
 
-    /// Adds a context.
+    /// Adds a context, which is open.
     pub fn add(&mut self, context: Context) -> Result<(), NoMemory>
-        ensures ok { OnOk result (self.new ≡ record self.old { made = self.old.made ++ context ∷ [] }) }
+        ensures ok { OnOk result (self.new ≡ record self.old { made = self.old.made ++ context ∷ []; closings = self.new.closings }) }
+        ensures closed { (id : ContextId) → closed_in id self.new.closings ≡ closed_in id self.old.closings }
         ensures err { OnErr result (self.new ≡ self.old) }
     {
-        self.contexts.push(context)?;
+        self.contexts.push(Kept {
+            context,
+            closed: None,
+        })?;
+        Ok(())
+    }
+
+    /// Adds contexts, which are open, in their order: all of them, or none where memory runs out.
+    pub fn add_all(&mut self, contexts: &[Context]) -> Result<(), NoMemory>
+        ensures ok { OnOk result (self.new ≡ record self.old { made = self.old.made ++ contexts.now; closings = self.new.closings }) }
+        ensures closed { (id : ContextId) → closed_in id self.new.closings ≡ closed_in id self.old.closings }
+        ensures err { OnErr result (self.new ≡ self.old) }
+    {
+        self.contexts.reserve(contexts.len())?;
+        push_open(&mut self.contexts, contexts);
         Ok(())
     }
 
@@ -77,7 +122,21 @@ impl Contexts {
     pub fn context(&self, id: ContextId) -> Option<Context>
         ensures { result ≡ find (is_context_of id) self.now.made }
     {
-        self.contexts.iter().copied().find(|c| id == c.id)
+        context_in(&self.contexts, id)
+    }
+
+    /// The entry that closed a context, if one did.
+    pub fn closed_at(&self, id: ContextId) -> Option<EntryNo>
+        ensures { result ≡ closed_in id self.now.closings }
+    {
+        closed_at(&self.contexts, id)
+    }
+
+    /// Whether a context is there and open.
+    pub fn is_open(&self, id: ContextId) -> bool
+        ensures { result ≡ (is_some (find (is_context_of id) self.now.made) && is_none (closed_in id self.now.closings)) }
+    {
+        self.context(id).is_some() && self.closed_at(id).is_none()
     }
 
     /// How many tasks of the pool of this name may run at once, where it is there.
@@ -132,16 +191,33 @@ impl Contexts {
             .any(|h| is_named(context, ordered_of(*h)))
     }
 
-    /// Makes room for so many tasks beyond those that wait, each until it is finished.
+    /// Makes room for so many tasks beyond those that wait and those that places are owed to, each until it is finished.
     pub fn reserve(&mut self, places: usize) -> Result<(), NoMemory>
         ensures same { self.new ≡ record self.old { room = self.new.room } }
         ensures kept { self.old.room ≤ self.new.room }
         ensures room { OnOk result (places ≤ self.new.room) }
     {
-        let tasks = self.items.len().checked_add(places).ok_or(NoMemory)?;
-        self.items.reserve(places)?;
+        let more = self.owed.checked_add(places).ok_or(NoMemory)?;
+        let tasks = self.items.len().checked_add(more).ok_or(NoMemory)?;
+        self.items.reserve(more)?;
         self.held_tasks.reserve(tasks)?;
         Ok(())
+    }
+
+    /// Puts so many places by, for tasks that come later.
+    pub fn keep(&mut self, places: usize)
+        requires { places ≤ self.old.room }
+        ensures { self.new ≡ record self.old { owed = self.old.owed + places; room = self.old.room - places } }
+    {
+        self.owed += places;
+    }
+
+    /// Gives so many of the places back that are owed.
+    pub fn release(&mut self, places: usize)
+        requires { places ≤ self.old.owed }
+        ensures { self.new ≡ record self.old { owed = self.old.owed - places; room = self.old.room + places } }
+    {
+        self.owed -= places;
     }
 
     /// Adds a handler's task to those that wait, on the lane of its context.
@@ -150,16 +226,25 @@ impl Contexts {
         ensures added { self.new ≡ record self.old { waiting = self.old.waiting ++ handler_item self.old.made entry place context kind ∷ []; room = self.new.room } }
         ensures room { self.old.room ≤ self.new.room + 1 }
     {
-        let lane = handlers_lane(self.context(context));
-        let item = Item {
-            entry,
-            place,
-            context,
-            lane,
-            mode: Mode::Handler,
-            kind,
-        };
+        let item = handler_item(&self.contexts, entry, place, context, kind);
         self.items.push(item).unwrap();
+    }
+
+    /// Adds a handler's task to those that wait, in one of the places that are owed.
+    pub fn put_kept(&mut self, entry: EntryNo, place: u64, context: ContextId, kind: ItemKind)
+        requires { 0 < self.old.owed }
+        ensures added { self.new ≡ record self.old { waiting = self.old.waiting ++ handler_item self.old.made entry place context kind ∷ []; owed = self.old.owed - 1; room = self.new.room } }
+        ensures room { self.old.room ≤ self.new.room }
+    {
+        self.release(1);
+        self.put(entry, place, context, kind);
+    }
+
+    /// The tasks that wait, by (entry, place).
+    pub fn items(&self) -> &[Item]
+        ensures { result.now ≡ self.now.waiting }
+    {
+        &self.items
     }
 
     /// The place of the first waiting task that may be taken from the lane.
@@ -231,6 +316,110 @@ impl Contexts {
         ensures room { self.old.room + length self.old.waiting ≤ self.new.room + length self.new.waiting }
     {
         leave_out(&mut self.items, consumer);
+    }
+
+    /// Closes a context at an entry, if it is there and open, and leaves out the tasks that wait for it.
+    pub fn close(&mut self, id: ContextId, at: EntryNo)
+        ensures left { self.new ≡ record self.old { closings = self.new.closings; waiting = filter (λ (item : Item). not (same_context id item.context)) self.old.waiting; room = self.new.room } }
+        ensures closed { (other : ContextId) → closed_in other self.new.closings ≡ option_or (closed_in other self.old.closings) (if same_context other id && is_some (find (is_context_of other) self.old.made) then Some at else None) }
+        ensures room { self.old.room + length self.old.waiting ≤ self.new.room + length self.new.waiting }
+    {
+        close_one(&mut self.contexts, id, at);
+        leave_out_context(&mut self.items, id);
+    }
+
+    /// Closes at an entry each context that is open. No task waits any more.
+    pub fn close_all(&mut self, at: EntryNo)
+        ensures left { self.new ≡ record self.old { closings = self.new.closings; waiting = []; room = self.new.room } }
+        ensures closed { (other : ContextId) → closed_in other self.new.closings ≡ option_or (closed_in other self.old.closings) (if is_some (find (is_context_of other) self.old.made) then Some at else None) }
+        ensures room { self.old.room + length self.old.waiting ≤ self.new.room }
+    {
+        close_each(&mut self.contexts, at);
+        self.items.clear();
+    }
+}
+
+// What is kept of the context of this name.
+fn kept_in(contexts: &Vec<Kept>, id: ContextId) -> Option<&Kept>
+    ensures { option_copied result ≡ find (is_kept_of id) contexts.now.items }
+{
+    contexts.iter().find(|kept| id == kept.context.id)
+}
+
+// The context of this name.
+#[tactic(auto, using(crate::proofs::Closings::find_context))]
+fn context_in(contexts: &Vec<Kept>, id: ContextId) -> Option<Context>
+    ensures { result ≡ find (is_context_of id) (map context_of contexts.now.items) }
+{
+    match kept_in(contexts, id) {
+        Some(kept) => Some(kept.context),
+        None => None,
+    }
+}
+
+// The entry that closed a context.
+fn closed_at(contexts: &Vec<Kept>, id: ContextId) -> Option<EntryNo>
+    ensures { result ≡ closed_in id contexts.now.items }
+{
+    match kept_in(contexts, id) {
+        Some(kept) => kept.closed,
+        None => None,
+    }
+}
+
+// Adds contexts that are open, for which there is room.
+fn push_open(contexts: &mut Vec<Kept>, more: &[Context])
+    requires { vec_len contexts.old + length more.now ≤ vec_capacity contexts.old }
+    ensures made { map context_of contexts.new.items ≡ map context_of contexts.old.items ++ more.now }
+    ensures closed { (id : ContextId) → closed_in id contexts.new.items ≡ closed_in id contexts.old.items }
+{
+    for context in more.iter() {
+        contexts
+            .push(Kept {
+                context: *context,
+                closed: None,
+            })
+            .unwrap();
+    }
+}
+
+// Closes a context at an entry, if it is there and open.
+fn close_one(contexts: &mut Vec<Kept>, id: ContextId, at: EntryNo)
+    ensures made { map context_of contexts.new.items ≡ map context_of contexts.old.items }
+    ensures closed { (other : ContextId) → closed_in other contexts.new.items ≡ option_or (closed_in other contexts.old.items) (if same_context other id && is_some (find (is_context_of other) (map context_of contexts.old.items)) then Some at else None) }
+{
+    for kept in contexts.iter_mut() {
+        kept.close_named(id, at);
+    }
+}
+
+// Closes at an entry each context that is open.
+fn close_each(contexts: &mut Vec<Kept>, at: EntryNo)
+    ensures made { map context_of contexts.new.items ≡ map context_of contexts.old.items }
+    ensures closed { (other : ContextId) → closed_in other contexts.new.items ≡ option_or (closed_in other contexts.old.items) (if is_some (find (is_context_of other) (map context_of contexts.old.items)) then Some at else None) }
+{
+    for kept in contexts.iter_mut() {
+        kept.close(at);
+    }
+}
+
+// A handler's task, on the lane of its context.
+fn handler_item(
+    contexts: &Vec<Kept>,
+    entry: EntryNo,
+    place: u64,
+    context: ContextId,
+    kind: ItemKind,
+) -> Item
+    ensures { result ≡ handler_item (map context_of contexts.now.items) entry place context kind }
+{
+    Item {
+        entry,
+        place,
+        context,
+        lane: handlers_lane(context_in(contexts, context)),
+        mode: Mode::Handler,
+        kind,
     }
 }
 
@@ -317,4 +506,13 @@ fn leave_out(items: &mut Vec<Item>, consumer: ConsumerId)
     ensures capacity { vec_capacity items.new ≡ vec_capacity items.old }
 {
     items.retain(|item| !is_for(consumer, item.kind));
+}
+
+// Leaves out the tasks that wait for a context.
+fn leave_out_context(items: &mut Vec<Item>, context: ContextId)
+    ensures items { items.new.items ≡ filter (λ (item : Item). not (same_context context item.context)) items.old.items }
+    ensures len { vec_len items.new ≤ vec_len items.old }
+    ensures capacity { vec_capacity items.new ≡ vec_capacity items.old }
+{
+    items.retain(|item| context != item.context);
 }

@@ -5,8 +5,9 @@ mod contexts;
 mod lanes;
 mod refusals;
 
-pub use contexts::Contexts;
+pub use contexts::{Contexts, Kept};
 pub use lanes::same_lane;
 pub use refusals::{
-    already_holding, lane_held, no_context, no_lane, not_holding, not_your_context, not_your_lane,
+    already_holding, closed, closed_if_named, context_closed, holder_closed, lane_held, no_context,
+    no_lane, not_holding, not_your_context, not_your_lane,
 };

@@ -65,6 +65,48 @@ fn foreign(contexts: &Contexts, pass: PassNo, context: Context) -> Option<Refusa
     }
 }
 
+/// `ContextClosed`, where the context is closed.
+pub fn context_closed(contexts: &Contexts, context: ContextId) -> Option<Refusal>
+    ensures { (history : List Traced) → ContextsStand contexts.now history → result ≡ machine.context_closed history context }
+{
+    contexts.closed_at(context).map(Refusal::ContextClosed)
+}
+
+// `ContextClosed`, where a context is named that is closed.
+fn named_closed(contexts: &Contexts, context: Option<ContextId>) -> Option<Refusal>
+    ensures { (history : List Traced) → ContextsStand contexts.now history → result ≡ machine.if_named (machine.context_closed history) context }
+{
+    match context {
+        Some(context) => context_closed(contexts, context),
+        None => None,
+    }
+}
+
+/// `ContextClosed`, where the pass holds a handler's task of a context that is closed.
+pub fn holder_closed(contexts: &Contexts, pass: PassNo) -> Option<Refusal>
+    ensures { (history : List Traced) → ContextsStand contexts.now history → result ≡ machine.holder_closed history pass }
+{
+    named_closed(contexts, contexts.held_context(pass))
+}
+
+/// `ContextClosed`, where the context is closed, or that of the task which the pass holds.
+pub fn closed(contexts: &Contexts, pass: PassNo, context: ContextId) -> Option<Refusal>
+    ensures { (history : List Traced) → ContextsStand contexts.now history → result ≡ machine.closed history pass context }
+{
+    context_closed(contexts, context).or(holder_closed(contexts, pass))
+}
+
+/// The same of a context that may be named.
+pub fn closed_if_named(
+    contexts: &Contexts,
+    pass: PassNo,
+    context: Option<ContextId>,
+) -> Option<Refusal>
+    ensures { (history : List Traced) → ContextsStand contexts.now history → result ≡ machine.closed_if_named history pass context }
+{
+    named_closed(contexts, context).or(holder_closed(contexts, pass))
+}
+
 /// `NoLane`, where the lane is not there: an event loop is there below number 16.
 pub fn no_lane(contexts: &Contexts, lane: Lane) -> Option<Refusal>
     ensures { (history : List Traced) → ContextsStand contexts.now history → result ≡ machine.no_lane history lane }

@@ -8,7 +8,7 @@ ghost use Rattle.vx_bus_store.specs.Stands.{StoresStand, Follows};
 use vx_bus_refusals::{add_codec_refusal, add_rule_refusal, no_codec, no_rule};
 use vx_bus_store::Bus;
 use vx_call::{Call, CodecForm, Condition, Reply, Side, Unmade, Verdict};
-use vx_context::Contexts;
+use vx_context::{Contexts, holder_closed};
 use vx_data::{CodecId, EntryNo, PassNo, RuleId, Text};
 use vx_timer::Timers;
 
@@ -29,7 +29,7 @@ pub fn add_codec(
     ensures consumers { bus.new.consumers ≡ bus.old.consumers }
     ensures room { bus.new.room ≡ bus.old.room }
 {
-    if let Some(refusal) = add_codec_refusal(bus, &name, &form) {
+    if let Some(refusal) = add_codec_refusal(contexts, bus, pass, &name, &form) {
         return Ok(Reply::Refused(refusal));
     }
     let id = CodecId(at);
@@ -55,7 +55,7 @@ pub fn remove_codec(
     ensures consumers { bus.new.consumers ≡ bus.old.consumers }
     ensures room { bus.new.room ≡ bus.old.room }
 {
-    if let Some(refusal) = no_codec(bus, &name) {
+    if let Some(refusal) = no_codec(bus, &name).or(holder_closed(contexts, pass)) {
         return Reply::Refused(refusal);
     }
     bus.remove_codec(&name);
@@ -80,7 +80,7 @@ pub fn add_rule(
     ensures consumers { bus.new.consumers ≡ bus.old.consumers }
     ensures room { bus.new.room ≡ bus.old.room }
 {
-    if let Some(refusal) = add_rule_refusal(bus, side, &verdict) {
+    if let Some(refusal) = add_rule_refusal(contexts, bus, pass, side, &verdict) {
         return Ok(Reply::Refused(refusal));
     }
     let id = RuleId(at);
@@ -110,7 +110,7 @@ pub fn remove_rule(
     ensures consumers { bus.new.consumers ≡ bus.old.consumers }
     ensures room { bus.new.room ≡ bus.old.room }
 {
-    if let Some(refusal) = no_rule(bus, rule) {
+    if let Some(refusal) = no_rule(bus, rule).or(holder_closed(contexts, pass)) {
         return Reply::Refused(refusal);
     }
     bus.remove_rule(rule);

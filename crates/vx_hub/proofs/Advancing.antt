@@ -19,7 +19,7 @@ use Rattle.vx_call.specs.declared.reply.Task.TheVariants as tasks
 use Rattle.vx_call.specs.declared.history.Traced.{Traced}
 use Rattle.vx_data.specs.Ids.{same_message}
 use Rattle.vx_call.specs.Askers as askers
-use Rattle.vx_call.specs.Built.{AreBuilt}
+use Rattle.vx_call.specs.Built.{AreStored}
 use Rattle.vx_call.specs.Contexts as machine
 use Rattle.vx_call.specs.Homes.{Heard, heard}
 use Rattle.vx_call.specs.Names.{next_entry}
@@ -27,7 +27,7 @@ use Rattle.vx_call.specs.Owners.{context_owning}
 use Rattle.vx_call.specs.Requests.{Open, unsettled, by_due}
 use Rattle.vx_call.specs.Settled.{timeout, settlements}
 use Rattle.vx_call.specs.Items.{outcome_item, outcome_items, outcome_tasks}
-use Rattle.vx_call.proofs.Built.{IsAskedByContext, unsettled_of_contexts}
+use Rattle.vx_call.proofs.Stored.{IsAskedByContext, unsettled_of_contexts}
 use Rattle.vx_call.proofs.Each.{Each, Each-take}
 use Rattle.vx_call.proofs.Items.{heard_timeout}
 use Rattle.vx_call.proofs.Lasting.{filter_all}
@@ -65,19 +65,19 @@ IsNextDue history count request rest = drop count (by_due (unsettled history)) �
 abbrev pub IsAsked : Open → ContextId → Type 0
 IsAsked request context = request.asker ≡ askers.context context
 
-due_of_contexts : (history : List Traced) → AreBuilt history → Each IsAskedByContext (by_due (unsettled history))
-due_of_contexts history built = Each-by_due IsAskedByContext (unsettled history) (unsettled_of_contexts history built)
+due_of_contexts : (history : List Traced) → AreStored history → Each IsAskedByContext (by_due (unsettled history))
+due_of_contexts history stored = Each-by_due IsAskedByContext (unsettled history) (unsettled_of_contexts history stored)
 
 -- its outcome
-timeouts_more : (history : List Traced) (count : ℕ) (request : Open) (context : ContextId) (rest : List Open) → AreBuilt history → IsAsked request context → IsNextDue history count request rest →
+timeouts_more : (history : List Traced) (count : ℕ) (request : Open) (context : ContextId) (rest : List Open) → AreStored history → IsAsked request context → IsNextDue history count request rest →
     timeouts history (suc count) ≡ timeouts history count ++ outcome_item count (heard_timeout history request context) ∷ []
-timeouts_more history count request context rest built asks left =
+timeouts_more history count request context rest stored asks left =
     let due = by_due (unsettled history) in
     let next = next_behind due count request rest left in
     let inside = next.inside in
     let before = heard (settlements history timeout (take count due)) in
     let counted : 0 + length before ≡ count =
-    let len = length-take-le count due (omega arith) in let same = length-heard history (take count due) (Each-take IsAskedByContext count due (due_of_contexts history built)) in omega arith in
+    let len = length-take-le count due (omega arith) in let same = length-heard history (take count due) (Each-take IsAskedByContext count due (due_of_contexts history stored)) in omega arith in
     ap (λ rs. outcome_items 0 (heard (settlements history timeout rs))) next.front
     ∙ ap (outcome_items 0) (heard-push history (take count due) request context asks)
     ∙ outcome_items-push 0 before (heard_timeout history request context)
@@ -108,12 +108,12 @@ asker_there old_contexts contexts timers old_bus bus history moment count reques
     ∙ ap (λ asker. context_owning (owner_asking asker)) asks
 
 -- what the contexts have then
-items_more : (old contexts new : ContextStore) (history : List Traced) (at : EntryNo) (count : ℕ) (request : Open) (context : ContextId) (rest : List Open) → old.made ≡ machine.contexts history → AreBuilt history →
+items_more : (old contexts new : ContextStore) (history : List Traced) (at : EntryNo) (count : ℕ) (request : Open) (context : ContextId) (rest : List Open) → old.made ≡ machine.contexts history → AreStored history →
     IsNext at history → IsAsked request context → IsNextDue history count request rest →
     contexts ≡ record old { waiting = old.waiting ++ map (item_of history) (timeouts history count); room = contexts.room } →
     new ≡ record contexts { waiting = contexts.waiting ++ handler_item contexts.made at count context (kinds.Outcome request.id) ∷ []; room = new.room } →
     new ≡ record old { waiting = old.waiting ++ map (item_of history) (timeouts history (suc count)); room = new.room }
-items_more old contexts new history at count request context rest is_made built is_next asks left is_contexts is_new =
+items_more old contexts new history at count request context rest is_made stored is_next asks left is_contexts is_new =
     let item : List Context → ℕ → Item = λ made n. handler_item made (record { 0 = n }) count context (kinds.Outcome request.id) in
     let store = λ (waiting : List Item). (let s : ContextStore = record old { waiting = waiting; room = new.room } in s) in
     let before = map (item_of history) (timeouts history count) in
@@ -124,7 +124,7 @@ items_more old contexts new history at count request context rest is_made built 
     ∙ ap (λ made. old.waiting ++ (before ++ item made at.0 ∷ [])) is_made
     ∙ ap (λ n. old.waiting ++ (before ++ item (machine.contexts history) n ∷ [])) is_next
     ∙ ap (λ ws. old.waiting ++ ws) (sym (map-append (item_of history) (timeouts history count) (outcome_item count (heard_timeout history request context) ∷ [])))
-    ∙ ap (λ ws. old.waiting ++ map (item_of history) ws) (sym (timeouts_more history count request context rest built asks left)))
+    ∙ ap (λ ws. old.waiting ++ map (item_of history) ws) (sym (timeouts_more history count request context rest stored asks left)))
 
 -- what the bus has then
 tasks_more : (old bus new : BusStore) (history : List Traced) (count : ℕ) (request : Open) (context : ContextId) (rest : List Open) → IsAsked request context → IsNextDue history count request rest →
@@ -177,16 +177,16 @@ ended_more history at count request rest id old now new is_next left is_now is_n
 
 -- a request behind those that have ended, whose time is up, ends
 one_more : (old_contexts contexts new_contexts : ContextStore) (timers : List Timer) (old_bus bus new_bus : BusStore) (history : List Traced) (moment : ℕ) (at : EntryNo) (count : ℕ) (request : Open) (context : ContextId) (rest : List Open) →
-    old_contexts.made ≡ machine.contexts history → AreBuilt history → IsNext at history → Advanced old_contexts contexts timers old_bus bus history moment count → IsAsked request context → IsNextDue history count request rest →
+    old_contexts.made ≡ machine.contexts history → AreStored history → IsNext at history → Advanced old_contexts contexts timers old_bus bus history moment count → IsAsked request context → IsNextDue history count request rest →
     request.due ≤ moment → TimesOut contexts new_contexts bus new_bus at count request.id context → Advanced old_contexts new_contexts (map timer_of rest) old_bus new_bus history moment (suc count)
-one_more old_contexts contexts new_contexts timers old_bus bus new_bus history moment at count request context rest is_made built is_next advanced asks left is_due ends =
+one_more old_contexts contexts new_contexts timers old_bus bus new_bus history moment at count request context rest is_made stored is_next advanced asks left is_due ends =
     let next = next_behind (by_due (unsettled history)) count request rest left in
     let inside = next.inside in
     let IsUp : Open → Type 0 = λ r. r.due ≤ moment in
     record {
       within = omega arith;
       due = All-same IsUp (ended_first history (suc count)) (ended_first history count ++ request ∷ []) next.front (All-push IsUp (ended_first history count) request advanced.due is_due);
-      items = items_more old_contexts contexts new_contexts history at count request context rest is_made built is_next asks left advanced.items ends.items;
+      items = items_more old_contexts contexts new_contexts history at count request context rest is_made stored is_next asks left advanced.items ends.items;
       timers = ap (map timer_of) (sym next.behind);
       tasks = tasks_more old_bus bus new_bus history count request context rest asks left advanced.tasks ends.tasks;
       left = left_more history count request rest bus.requests.waiting new_bus.requests.waiting left advanced.left ends.left;
@@ -195,13 +195,13 @@ one_more old_contexts contexts new_contexts timers old_bus bus new_bus history m
 
 -- the first timer fires, and its request ends
 pub more_advanced : (old_contexts contexts new_contexts : ContextStore) (timers new_timers : List Timer) (old_bus bus new_bus : BusStore) (history : List Traced) (moment : ℕ) (at : EntryNo) (count due : ℕ) (id : EntryNo) →
-    old_contexts.made ≡ machine.contexts history → AreBuilt history → IsNext at history → Advanced old_contexts contexts timers old_bus bus history moment count → Fires moment timers new_timers due id →
+    old_contexts.made ≡ machine.contexts history → AreStored history → IsNext at history → Advanced old_contexts contexts timers old_bus bus history moment count → Fires moment timers new_timers due id →
     ((asker : ContextId) → asker_in (find (is_request (record { 0 = id })) bus.requests.waiting) ≡ Some asker → TimesOut contexts new_contexts bus new_bus at count (record { 0 = id }) asker) →
     Advanced old_contexts new_contexts new_timers old_bus new_bus history moment (count + 1)
-more_advanced old_contexts contexts new_contexts timers new_timers old_bus bus new_bus history moment at count due id is_made built is_next advanced fires ends =
+more_advanced old_contexts contexts new_contexts timers new_timers old_bus bus new_bus history moment at count due id is_made stored is_next advanced fires ends =
     let part = first_part timer_of (drop count (by_due (unsettled history))) fires.timer fires.others (sym advanced.timers ∙ fires.first) in
     let request = part.first in
-    let asked : IsAskedByContext request = Each-behind IsAskedByContext (by_due (unsettled history)) count request part.others part.whole (due_of_contexts history built) in
+    let asked : IsAskedByContext request = Each-behind IsAskedByContext (by_due (unsettled history)) count request part.others part.whole (due_of_contexts history stored) in
     let is_up = fires.is_due in
     let due_then : request.due ≡ fires.timer.due = ap (λ (t : Timer). t.due) part.part in
     let named : id ≡ request.id.0 = sym fires.named ∙ sym (ap (λ (t : Timer). t.id) part.part) in
@@ -214,7 +214,7 @@ more_advanced old_contexts contexts new_contexts timers new_timers old_bus bus n
     let One : List Timer → Type 0 = λ ts. After ts (suc count) in
     let More : ℕ → Type 0 = After new_timers in
     subst More (sym (add-one count))
-    (subst One (sym others) (one_more old_contexts contexts new_contexts timers old_bus bus new_bus history moment at count request asked.0 part.others is_made built is_next advanced asked.1 part.whole (omega arith) ended))
+    (subst One (sym others) (one_more old_contexts contexts new_contexts timers old_bus bus new_bus history moment at count request asked.0 part.others is_made stored is_next advanced asked.1 part.whole (omega arith) ended))
 
 -- ## At last, those left are due later
 

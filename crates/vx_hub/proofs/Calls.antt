@@ -15,7 +15,7 @@ use Rattle.vx_call.specs.declared.history.Deed.TheVariants as deeds
 use Rattle.vx_call.specs.declared.history.Mark.{Mark}
 use Rattle.vx_call.specs.declared.history.Traced.{Traced}
 use Rattle.vx_call.specs.History.{is_accepted, made_by, ended_by, plain_entry, no_mark, lasting}
-use Rattle.vx_call.specs.Built.{is_built, IsBuilt, AreBuilt}
+use Rattle.vx_call.specs.Built.{is_built, IsBuilt, AreStored, AreBuilt}
 use Rattle.vx_call.specs.Effects.{marked}
 use Rattle.vx_call.specs.Homes.{heard}
 use Rattle.vx_call.specs.Items.{outcome_tasks}
@@ -24,7 +24,10 @@ use Rattle.vx_call.specs.Time.{moment_kind, moment_made, now}
 use Rattle.vx_call.specs.Refusals.{unless_refused, refused_if, is_spent, shut}
 use Rattle.vx_call.specs.Machine.{row, answer}
 use Rattle.vx_call.specs.Plain.{is_plain}
-use Rattle.vx_call.proofs.Built.{built_more, not_shut, no_mark_made}
+use Rattle.vx_call.proofs.Stored.{stored_more}
+use Rattle.vx_call.proofs.KeepsOpen.{KeepsOpen}
+use Rattle.vx_call.proofs.Dropped.{none_dropped}
+use Rattle.vx_call.proofs.Built.{built_more, stored_entry, built_keeps, not_shut, no_mark_made}
 use Rattle.vx_call.proofs.Lasting.{lasting_same, lasting_more, and_false}
 use Rattle.vx_call.proofs.Legal.{legal_more}
 use Rattle.vx_call.proofs.Refused.{refused_unchanged}
@@ -39,7 +42,7 @@ use Rattle.vx_bus_store.proofs.Kept.{mailbox_kept, task_kept}
 use Rattle.vx_hub.specs.Counts.{with_entry}
 use Rattle.vx_hub.specs.Named.{NameContexts}
 use Rattle.vx_hub.specs.Stores.{HubStore}
-use Rattle.vx_hub.specs.Stands.{PartsStand, PartsFollow, HubStands, StandsFor, Meets, IsOfHistory}
+use Rattle.vx_hub.specs.Stands.{PartsStand, PartsFollow, HubStands, StandsFor, Meets, IsOfHistory, AreOfBuiltHistory}
 use Rattle.vx_hub.proofs.Counting.{counted_more, entries_of}
 use Rattle.vx_hub.proofs.Finishing.{finish_settles}
 use Rattle.vx_hub.proofs.Named.{named_more}
@@ -78,9 +81,9 @@ pub now_left : (history : List Traced) (new : Traced) → made_by moment_kind hi
 now_left history new none = ap (fold max 0) (lasting_same moment_kind history new none (moment_stays history new))
 
 -- a row that moves the stores alone
-pub keeping_time : (pass_count moment : ℕ) (contexts : ContextStore) (timers : List Timer) (bus : BusStore) (history : List Traced) (pass : PassNo) (call : Call) (reply : Reply) → keeps_time call ≡ true →
-    pass_count ≡ passes history → moment ≡ now history → NameContexts history → Follows contexts timers bus history pass call reply → PartsFollow pass_count moment contexts timers bus history pass call reply
-keeping_time pass_count moment contexts timers bus history pass call reply keeps counted told named follows =
+pub keeping_time : (pass_count moment : ℕ) (contexts : ContextStore) (timers : List Timer) (bus : BusStore) (history : List Traced) (pass : PassNo) (call : Call) (reply : Reply) → keeps_time call ≡ true → is_built call ≡ true →
+    pass_count ≡ passes history → moment ≡ now history → NameContexts history → AreBuilt history → Follows contexts timers bus history pass call reply → PartsFollow pass_count moment contexts timers bus history pass call reply
+keeping_time pass_count moment contexts timers bus history pass call reply keeps is counted told named built follows =
     let entry = plain_entry pass call reply no_mark in
     record {
       answered = follows.answered;
@@ -88,6 +91,7 @@ keeping_time pass_count moment contexts timers bus history pass call reply keeps
         passes = counted ∙ sym (passes_left history entry (ap (λ ps. cond (is_accepted reply) ps []) (no_pass history call keeps) ∙ either (is_accepted reply) []));
         now = told ∙ sym (now_left history entry (ap (λ ms. cond (is_accepted reply) ms []) (no_moment call keeps) ∙ either (is_accepted reply) []));
         named = named_more history pass call reply follows.answered named;
+        built = built_more history entry built (record { call = is; mark = refl });
         stores = follows.stores;
       };
     }
@@ -105,43 +109,46 @@ leaves_bus _ = false
 untouched : (history : List Traced) (pass : PassNo) (call : Call) (reply : Reply) → leaves_bus call ≡ true → AreBuilt history → LeavesBus history (plain_entry pass call reply no_mark)
 untouched history pass calls.NewPass reply leaves built =
     let entry = plain_entry pass calls.NewPass reply no_mark in
-    let one : IsBuilt entry = record { call = refl; mark = refl } in
+    let keeps : KeepsOpen history entry = built_keeps history entry built (record { call = refl; mark = refl }) in
     record {
-      consumers = record { registered = either (is_accepted reply) []; kept = λ c. consumer_kept history entry c built one refl };
-      numbers = numbers_left history entry (λ c. mailbox_kept history entry c built one refl refl);
+      consumers = record { registered = either (is_accepted reply) []; kept = λ c. consumer_kept history entry c keeps refl };
+      numbers = numbers_left history entry (λ c. mailbox_kept history entry c keeps refl refl);
       choices = either (is_accepted reply) [];
-      tasks = record { made = either (is_accepted reply) []; kept = λ t. task_kept history entry t built refl };
-      requests = record { opened = either (is_accepted reply) []; settled = λ r. request_kept history entry r built one refl };
+      tasks = record { made = either (is_accepted reply) []; kept = λ t. task_kept history entry t keeps refl };
+      requests = record { opened = either (is_accepted reply) []; settled = λ r. request_kept history entry r keeps refl };
       settled = either (is_accepted reply) [];
+      dropped = none_dropped history entry keeps;
       given = either (is_accepted reply) [];
       codecs = record { added = either (is_accepted reply) []; kept = λ c. and_false (is_accepted reply) };
       rules = record { added = either (is_accepted reply) []; kept = λ r. and_false (is_accepted reply) };
     }
 untouched history pass calls.NewContext reply leaves built =
     let entry = plain_entry pass calls.NewContext reply no_mark in
-    let one : IsBuilt entry = record { call = refl; mark = refl } in
+    let keeps : KeepsOpen history entry = built_keeps history entry built (record { call = refl; mark = refl }) in
     record {
-      consumers = record { registered = either (is_accepted reply) []; kept = λ c. consumer_kept history entry c built one refl };
-      numbers = numbers_left history entry (λ c. mailbox_kept history entry c built one refl refl);
+      consumers = record { registered = either (is_accepted reply) []; kept = λ c. consumer_kept history entry c keeps refl };
+      numbers = numbers_left history entry (λ c. mailbox_kept history entry c keeps refl refl);
       choices = either (is_accepted reply) [];
-      tasks = record { made = either (is_accepted reply) []; kept = λ t. task_kept history entry t built refl };
-      requests = record { opened = either (is_accepted reply) []; settled = λ r. request_kept history entry r built one refl };
+      tasks = record { made = either (is_accepted reply) []; kept = λ t. task_kept history entry t keeps refl };
+      requests = record { opened = either (is_accepted reply) []; settled = λ r. request_kept history entry r keeps refl };
       settled = either (is_accepted reply) [];
+      dropped = none_dropped history entry keeps;
       given = either (is_accepted reply) [];
       codecs = record { added = either (is_accepted reply) []; kept = λ c. and_false (is_accepted reply) };
       rules = record { added = either (is_accepted reply) []; kept = λ r. and_false (is_accepted reply) };
     }
 untouched history pass (calls.Finish end) reply leaves built =
     let entry = plain_entry pass (calls.Finish end) reply no_mark in
-    let one : IsBuilt entry = record { call = refl; mark = refl } in
+    let keeps : KeepsOpen history entry = built_keeps history entry built (record { call = refl; mark = refl }) in
     let none = finish_settles history pass end deeds.Nothing built in
     record {
-      consumers = record { registered = either (is_accepted reply) []; kept = λ c. consumer_kept history entry c built one refl };
-      numbers = numbers_left history entry (λ c. mailbox_kept history entry c built one refl refl);
+      consumers = record { registered = either (is_accepted reply) []; kept = λ c. consumer_kept history entry c keeps refl };
+      numbers = numbers_left history entry (λ c. mailbox_kept history entry c keeps refl refl);
       choices = either (is_accepted reply) [];
-      tasks = record { made = ap (λ ended. cond (is_accepted reply) (outcome_tasks (heard ended)) []) none ∙ either (is_accepted reply) []; kept = λ t. task_kept history entry t built refl };
-      requests = record { opened = either (is_accepted reply) []; settled = λ r. request_kept history entry r built one refl };
+      tasks = record { made = ap (λ ended. cond (is_accepted reply) (outcome_tasks (heard ended)) []) none ∙ either (is_accepted reply) []; kept = λ t. task_kept history entry t keeps refl };
+      requests = record { opened = either (is_accepted reply) []; settled = λ r. request_kept history entry r keeps refl };
       settled = ap (λ ended. cond (is_accepted reply) ended []) none ∙ either (is_accepted reply) [];
+      dropped = none_dropped history entry keeps;
       given = either (is_accepted reply) [];
       codecs = record { added = either (is_accepted reply) []; kept = λ c. and_false (is_accepted reply) };
       rules = record { added = either (is_accepted reply) []; kept = λ r. and_false (is_accepted reply) };
@@ -154,19 +161,19 @@ leaves_built calls.NewContext leaves = refl
 leaves_built (calls.Finish end) leaves = refl
 leaves_built _ leaves = absurd cc
 
-pub leaving_bus : (contexts : ContextStore) (timers : List Timer) (bus : BusStore) (history : List Traced) (pass : PassNo) (call : Call) (reply : Reply) → leaves_bus call ≡ true → AreBuilt history → TimersStand timers history → BusStands bus history →
+pub leaving_bus : (contexts : ContextStore) (timers : List Timer) (bus : BusStore) (history : List Traced) (pass : PassNo) (call : Call) (reply : Reply) → leaves_bus call ≡ true → AreBuilt history → AreStored history → TimersStand timers history → BusStands bus history →
     ContextsFollow contexts history pass call reply → Follows contexts timers bus history pass call reply
-leaving_bus contexts timers bus history pass call reply leaves built timed stands follows =
+leaving_bus contexts timers bus history pass call reply leaves built stored timed stands follows =
     let entry = plain_entry pass call reply no_mark in
     let one : IsBuilt entry = record { call = leaves_built call leaves; mark = refl } in
     let all = untouched history pass call reply leaves built in
     record {
       answered = follows.answered;
       stores = record {
-        built = built_more history entry built one;
+        stored = stored_more history entry stored (stored_entry entry one);
         contexts = follows.stands;
         timers = timers_left timers history entry all.requests timed;
-        bus = bus_left bus history entry built one all stands;
+        bus = bus_left bus history entry stored all stands;
       };
     }
 
@@ -202,7 +209,7 @@ pub meets : (old new : HubStore) (pass : PassNo) (call : Call) (reply : Reply) �
 meets old new pass call reply is small more rows = λ history stands known.
     let short : length history < 2 ^ 48 = (let P : ℕ → Type 0 = λ n. n < 2 ^ 48 in subst P (entries_of old history stands.parts) small) in
     let unspent = is_unspent history short in
-    let built = stands.parts.parts.stores.built in
+    let built = stands.parts.parts.built in
     let follows = rows history stands.parts.parts (entries_of old history stands.parts) in
     let answers = row_answers history pass call reply short built follows.answered in
     let none : marked history pass call reply ≡ no_mark = no_mark_made history pass call reply built is in
@@ -230,6 +237,9 @@ of_history_still old new same keeps one = ∥∥₁_map one (λ p. (p.0, record 
 
 pub of_one_history : (hub : HubStore) → IsOfHistory hub → AreOfOneHistory hub.contexts hub.timers hub.bus
 of_one_history hub one = ∥∥₁_map one (λ p. (p.0, p.1.parts.stores))
+
+pub of_built_history : (hub : HubStore) → IsOfHistory hub → AreOfBuiltHistory hub.contexts hub.timers hub.bus
+of_built_history hub one = ∥∥₁_map one (λ p. (p.0, (p.1.parts.built, p.1.parts.stores)))
 
 -- ## Plain calls
 
@@ -271,11 +281,11 @@ makes_pass old_count new_count moment contexts timers bus history pass reply sta
     let made = replies.Pass (record { 0 = old_count }) in
     let entry = plain_entry pass calls.NewPass made no_mark in
     let P : Reply → Type 0 = λ r. PartsFollow new_count moment contexts timers bus history pass calls.NewPass r in
-    let follows = leaving_bus contexts timers bus history pass calls.NewPass made refl stands.stores.built stands.stores.timers stands.stores.bus
+    let follows = leaving_bus contexts timers bus history pass calls.NewPass made refl stands.built stands.stores.stored stands.stores.timers stands.stores.bus
     (record {
       answered = ap (λ n. replies.Pass (record { 0 = n })) stands.passes;
       stands = contexts_left contexts history entry
-          (record { items = record { contexts = refl; queued = refl }; pools = refl; held = refl; finished = λ h. refl; waiting = record { none = refl; kept = λ w. refl } }) stands.stores.contexts;
+          (record { closings = refl; items = record { contexts = refl; queued = refl }; pools = refl; held = refl; finished = λ h. refl; waiting = record { none = refl; kept = λ w. refl } }) stands.stores.contexts;
     }) in
     subst P (sym is_reply) (record {
       answered = follows.answered;
@@ -283,15 +293,16 @@ makes_pass old_count new_count moment contexts timers bus history pass reply sta
         passes = more_passes history pass (record { 0 = old_count }) old_count new_count stands.passes small is_new;
         now = stands.now ∙ sym (now_left history entry refl);
         named = named_more history pass calls.NewPass made follows.answered stands.named;
+        built = built_more history entry stands.built (record { call = refl; mark = refl });
         stores = follows.stores;
       };
     })
 
 -- the time that an Advance tells
 pub tells_time : (pass_count old_moment new_moment moment : ℕ) (contexts : ContextStore) (timers : List Timer) (bus : BusStore) (history : List Traced) (pass : PassNo) (reply : Reply) →
-    pass_count ≡ passes history → old_moment ≡ now history → new_moment ≡ max old_moment moment → NameContexts history → Follows contexts timers bus history pass (calls.Advance moment) reply →
+    pass_count ≡ passes history → old_moment ≡ now history → new_moment ≡ max old_moment moment → NameContexts history → AreBuilt history → Follows contexts timers bus history pass (calls.Advance moment) reply →
     PartsFollow pass_count new_moment contexts timers bus history pass (calls.Advance moment) reply
-tells_time pass_count old_moment new_moment moment contexts timers bus history pass reply counted told is_new named follows =
+tells_time pass_count old_moment new_moment moment contexts timers bus history pass reply counted told is_new named built follows =
     let entry = plain_entry pass (calls.Advance moment) reply no_mark in
     let accepted : is_accepted reply ≡ true = ap is_accepted follows.answered in
     record {
@@ -302,6 +313,7 @@ tells_time pass_count old_moment new_moment moment contexts timers bus history p
             ∙ sym (ap (fold max 0) (lasting_more moment_kind history entry (moment_stays history entry) ∙ ap (λ b. lasting moment_kind history ++ cond b (moment ∷ []) []) accepted)
             ∙ fold-append max 0 (lasting moment_kind history) (moment ∷ []));
         named = named_more history pass (calls.Advance moment) reply follows.answered named;
+        built = built_more history entry built (record { call = refl; mark = refl });
         stores = follows.stores;
       };
     }

@@ -1,4 +1,6 @@
 -- What a Finish does in a history of the calls that the hub makes so far: it makes nothing, and ends no request.
+use Rattle.vx_call.specs.declared.reply.Reply.TheVariants as replies
+use Rattle.vx_call.specs.History.{plain_entry, no_mark}
 use Rattle.std.proofs.Common.{◌≡◌, List, [], ◌∷◌, ◌++◌, refl, ap, ◌∙◌}
 use Rattle.std.specs.Prelude.{Bool, true, false, not, cond, map, filter}
 use Rattle.std.specs.List.{flat_map}
@@ -24,7 +26,8 @@ use Rattle.vx_call.specs.Requests.{Open, unsettled, closes_asker, settles}
 use Rattle.vx_call.specs.Settled.{no_handlers, settlements, settled_made}
 use Rattle.vx_call.specs.Starts.{deployed_contexts}
 use Rattle.vx_call.specs.There.{is_gone}
-use Rattle.vx_call.proofs.Built.{none_made, none_deployed}
+use Rattle.vx_call.proofs.KeepsOpen.{KeepsOpen}
+use Rattle.vx_call.proofs.Built.{built_keeps, none_made, none_deployed}
 use Rattle.vx_bus_store.proofs.KeptRequests.{settles_none}
 
 none_pass : {A : Type 0} (p : A → Bool) → ((x : A) → p x ≡ false) → (xs : List A) → filter p xs ≡ []
@@ -37,8 +40,10 @@ none_pass p fails (x ∷ xs) = ap (λ b. cond b (x ∷ filter p xs) (filter p xs
 pub finish_settles : (history : List Traced) (pass : PassNo) (end : End) (deed : Deed) → AreBuilt history → settled_made history pass (calls.Finish end) deed ≡ []
 finish_settles history pass end deed built =
     let call = calls.Finish end in
+    let entry = plain_entry pass call replies.Done no_mark in
+    let keeps : KeepsOpen history entry = built_keeps history entry built (record { call = refl; mark = refl }) in
     ap (λ (requests : List Open). settlements history no_handlers (filter (λ (request : Open). not (closes_asker history pass call request.asker)) requests))
-    (none_pass (settles history pass call deed) (λ request. settles_none history pass call deed request built refl refl) (unsettled history))
+    (none_pass (settles history pass call deed) (λ request. settles_none history entry request keeps refl) (unsettled history))
 
 -- ## Tasks of verticles, and blocking code
 

@@ -1,4 +1,5 @@
 -- What a look finds.
+use Rattle.vx_hub.proofs.Named.{waiting_there}
 use Rattle.std.proofs.Common.{◌≡◌, ℕ, min, nat_le, Bool, true, false, cond, List, [], ◌∷◌, map, None, Some, refl, ap, sym, ◌∙◌, rules, tests}
 use Rattle.std.specs.Prelude.{position, find, is_some}
 use Rattle.vx_message.specs.declared.Lane.{Lane}
@@ -23,11 +24,11 @@ found_at p (x ∷ xs) i h = ap is_some (find_from_position p (x ∷ xs) i x h)
 -- the store finds a next task where the history has one
 pub ready : (store : ContextStore) (history : List Traced) (lane : Lane) (i : ℕ) → ContextsStand store history → AreBuilt history → NameContexts history →
     position (is_ready store.pools store.held lane) store.waiting ≡ Some i → is_some (next history lane) ≡ true
-ready store history lane i stands built named at = found_at (may_take history lane) (waiting history) i (sym (place_there store history lane stands built named) ∙ at)
+ready store history lane i stands built named at = found_at (may_take history lane) (waiting history) i (sym (place_there store history lane stands (waiting_there history built named)) ∙ at)
 
 pub idle : (store : ContextStore) (history : List Traced) (lane : Lane) → ContextsStand store history → AreBuilt history → NameContexts history →
     position (is_ready store.pools store.held lane) store.waiting ≡ None → is_some (next history lane) ≡ false
-idle store history lane stands built named none = ap is_some (find_from_no_position (may_take history lane) (waiting history) (sym (place_there store history lane stands built named) ∙ none))
+idle store history lane stands built named none = ap is_some (find_from_no_position (may_take history lane) (waiting history) (sym (place_there store history lane stands (waiting_there history built named)) ∙ none))
 
 -- ## The first to be due
 

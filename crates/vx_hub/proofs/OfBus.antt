@@ -21,7 +21,8 @@ use Rattle.vx_call.specs.Mailboxes.{mailbox}
 use Rattle.vx_call.specs.Owners.{context_owning}
 use Rattle.vx_call.specs.Settled.{settled_made}
 use Rattle.vx_call.proofs.Advances.{advance_items}
-use Rattle.vx_call.proofs.Built.{built_front, built_last, under}
+use Rattle.vx_call.proofs.Stored.{under}
+use Rattle.vx_call.proofs.Built.{are_stored, built_front, built_last}
 use Rattle.vx_call.proofs.Each.{Each, Each-take, weaken, accepted, lasting_each}
 use Rattle.vx_call.proofs.Items.{is_of_bus, each_new_item, each_ready_for, each_held_task}
 use Rattle.vx_call.proofs.Tasks.{IsKnown, IsFresh, new_fresh, untaken_known}
@@ -81,7 +82,7 @@ new_of_bus history new (calls.Await context promise) is_call rest built = absurd
 new_of_bus history new (calls.Accepted id) is_call rest built = absurd cc
 new_of_bus history new (calls.Advance moment) is_call rest built =
     let P : List Waiting → Type 0 = Each (λ item. IsOfBus item.task) in
-    subst P (sym (advance_items history new moment rest)) (outcomes_of_bus 0 (heard (settled_made history new.entry.pass (calls.Advance moment) new.mark.deed)))
+    subst P (sym (advance_items history new moment (are_stored history rest))) (outcomes_of_bus 0 (heard (settled_made history new.entry.pass (calls.Advance moment) new.mark.deed)))
 new_of_bus history new call is_call rest built = each_new_item IsOfBus history new call refl (made_of_bus history new.entry.pass call new.mark.deed)
 
 -- ## All that wait

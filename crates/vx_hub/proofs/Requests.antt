@@ -14,7 +14,7 @@ use Rattle.vx_call.specs.Askers as askers
 use Rattle.vx_call.specs.Homes.{Heard, heard_by, heard}
 use Rattle.vx_call.specs.Settled.{timeout, settlement, settlements}
 use Rattle.vx_call.specs.Items.{outcome_item, outcome_items}
-use Rattle.vx_call.proofs.Built.{IsAskedByContext}
+use Rattle.vx_call.proofs.Stored.{IsAskedByContext}
 use Rattle.vx_call.proofs.Each.{Each, Each-both, Each-filter}
 use Rattle.vx_call.proofs.Apart.{Apart}
 use Rattle.vx_call.proofs.Items.{heard_timeout}

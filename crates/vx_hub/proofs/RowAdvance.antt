@@ -18,24 +18,26 @@ use Rattle.vx_call.specs.declared.history.Deed.TheVariants as deeds
 use Rattle.vx_call.specs.declared.history.Traced.{Traced}
 use Rattle.vx_call.specs.History.{plain_entry, no_mark, lasting}
 use Rattle.vx_data.specs.Ids.{same_message}
-use Rattle.vx_call.specs.Built.{IsBuilt, AreBuilt}
+use Rattle.vx_call.specs.Built.{AreStored}
 use Rattle.vx_call.specs.Due.{fired}
 use Rattle.vx_call.specs.Homes.{heard}
 use Rattle.vx_call.specs.Names.{next_entry}
 use Rattle.vx_call.specs.Given.{given_kind}
 use Rattle.vx_call.specs.Requests.{Open, open_kind, unsettled, by_due}
-use Rattle.vx_call.specs.Settled.{Settled, settled_kind, timeout, settlement, settlements, settled_made}
+use Rattle.vx_call.specs.Settled.{Settled, settled_kind, timeout, settlement, settlements, settled_made, settled_at}
 use Rattle.vx_call.specs.Time.{now}
 use Rattle.vx_call.specs.Items.{item_kind, waiting, outcome_items, task_kind, untaken, outcome_tasks}
 use Rattle.vx_call.specs.Held.{held_kind}
 use Rattle.vx_call.proofs.Advances.{advance_items, fired_count}
-use Rattle.vx_call.proofs.Built.{IsAskedByContext, built_more, unsettled_of_contexts, all_timed_out, settled_by_outcome}
+use Rattle.vx_call.proofs.Stored.{IsAskedByContext, stored_more, unsettled_of_contexts, all_timed_out}
+use Rattle.vx_call.proofs.KeepsOpen.{KeepsOpen, call_keeps, closed_kept}
+use Rattle.vx_call.proofs.Dropped.{ended_among, settled_at_kept}
 use Rattle.vx_call.proofs.Lasting.{lasting_same, lasting_more, lasting-append}
 use Rattle.vx_call.proofs.Each.{Each, Each-filter, weaken}
 use Rattle.vx_call.proofs.Opened.{unsettled_apart, Each-by_due}
 use Rattle.vx_call.proofs.Settlings.{is_settled_as, settled-append}
 use Rattle.vx_call.proofs.ByDue.{is_up, length-by_due, by_due-filter, due_front, due_rest}
-use Rattle.vx_context.specs.Stores.{ContextStore, item_of}
+use Rattle.vx_context.specs.Stores.{closed_in, ContextStore, item_of}
 use Rattle.vx_context.specs.Stands.{ContextsStand}
 use Rattle.vx_context.proofs.Items.{contexts_stay, items_left}
 use Rattle.vx_bus_store.specs.Stores.{BusStore, row_of, timer_of}
@@ -87,8 +89,8 @@ entry_of pass moment count = plain_entry pass (calls.Advance moment) (replies.Fi
 abbrev after : List Traced → PassNo → ℕ → ℕ → List Traced
 after history pass moment count = history ++ entry_of pass moment count ∷ []
 
-is_built : (pass : PassNo) (moment count : ℕ) → IsBuilt (entry_of pass moment count)
-is_built pass moment count = record { call = refl; mark = refl }
+keeps_open : (history : List Traced) (pass : PassNo) (moment count : ℕ) → KeepsOpen history (entry_of pass moment count)
+keeps_open history pass moment count = call_keeps history (entry_of pass moment count) (record { call = refl; mark = refl }) refl
 
 -- the moment that the entry tells
 abbrev told : List Traced → ℕ → ℕ
@@ -99,99 +101,94 @@ still_open : (history : List Traced) (pass : PassNo) (moment count : ℕ) → un
 still_open history pass moment count =
     let entry = entry_of pass moment count in
     lasting-append open_kind history entry ∙ append-nil _
-    ∙ filter_agree _ _ (λ request. ap not (ended_by_call history entry request (is_built pass moment count))) (unsettled history)
+    ∙ filter_agree _ _ (λ request. ap not (ended_by_call history entry request (keeps_open history pass moment count).stored)) (unsettled history)
 
 -- those whose time is up end so
-settled_up : (history : List Traced) (pass : PassNo) (moment : ℕ) → AreBuilt history →
+settled_up : (history : List Traced) (pass : PassNo) (moment : ℕ) → AreStored history →
     settled_made history pass (calls.Advance moment) deeds.Nothing ≡ settlements history timeout (by_due (filter (is_up (told history moment)) (unsettled history)))
-settled_up history pass moment built =
+settled_up history pass moment stored =
     let up = filter (is_up (told history moment)) (unsettled history) in
     all_timed_out history (by_due up)
-    (Each-by_due IsAskedByContext up (Each-filter IsAskedByContext IsAskedByContext (is_up (told history moment)) (unsettled history) (λ request passes asked. asked) (unsettled_of_contexts history built)))
+    (Each-by_due IsAskedByContext up (Each-filter IsAskedByContext IsAskedByContext (is_up (told history moment)) (unsettled history) (λ request passes asked. asked) (unsettled_of_contexts history stored)))
 
-settled_first : (history : List Traced) (pass : PassNo) (moment count : ℕ) → AreBuilt history → AreUp history (told history moment) count →
+settled_first : (history : List Traced) (pass : PassNo) (moment count : ℕ) → AreStored history → AreUp history (told history moment) count →
     settled_made history pass (calls.Advance moment) deeds.Nothing ≡ settlements history timeout (ended_first history count)
-settled_first history pass moment count built up = settled_up history pass moment built ∙ ap (settlements history timeout) up.front
+settled_first history pass moment count stored up = settled_up history pass moment stored ∙ ap (settlements history timeout) up.front
 
 -- their number is that of the reply
-fired_then : (history : List Traced) (pass : PassNo) (moment count : ℕ) → AreBuilt history → AreUp history (told history moment) count → fired history pass moment ≡ count
-fired_then history pass moment count built up =
+fired_then : (history : List Traced) (pass : PassNo) (moment count : ℕ) → AreStored history → AreUp history (told history moment) count → fired history pass moment ≡ count
+fired_then history pass moment count stored up =
     let all = filter (is_up (told history moment)) (unsettled history) in
-    fired_count history pass moment built
-    ∙ ap (λ (ended : List Settled). length ended) (settled_up history pass moment built)
+    fired_count history pass moment stored
+    ∙ ap (λ (ended : List Settled). length ended) (settled_up history pass moment stored)
     ∙ length-map (by_due all) (settlement history timeout)
     ∙ length-by_due all
     ∙ up.counted
 
 -- the tasks that wait then
-waiting_then : (history : List Traced) (pass : PassNo) (moment count : ℕ) → AreBuilt history → AreUp history (told history moment) count → waiting (after history pass moment count) ≡ waiting history ++ timeouts history count
-waiting_then history pass moment count built up =
+waiting_then : (history : List Traced) (pass : PassNo) (moment count : ℕ) → AreStored history → AreUp history (told history moment) count → waiting (after history pass moment count) ≡ waiting history ++ timeouts history count
+waiting_then history pass moment count stored up =
     let entry = entry_of pass moment count in
     lasting_more item_kind history entry (λ item. refl)
-    ∙ ap (λ items. waiting history ++ items) (advance_items history entry moment built)
-    ∙ ap (λ ended. waiting history ++ outcome_items 0 (heard ended)) (settled_first history pass moment count built up)
+    ∙ ap (λ items. waiting history ++ items) (advance_items history entry moment stored)
+    ∙ ap (λ ended. waiting history ++ outcome_items 0 (heard ended)) (settled_first history pass moment count stored up)
 
 -- the tasks that were not taken by then
-untaken_then : (history : List Traced) (pass : PassNo) (moment count : ℕ) → AreBuilt history → AreUp history (told history moment) count → untaken (after history pass moment count) ≡ untaken history ++ timed_out history count
-untaken_then history pass moment count built up =
+untaken_then : (history : List Traced) (pass : PassNo) (moment count : ℕ) → AreStored history → AreUp history (told history moment) count → untaken (after history pass moment count) ≡ untaken history ++ timed_out history count
+untaken_then history pass moment count stored up =
     lasting_more task_kind history (entry_of pass moment count) (λ task. refl)
-    ∙ ap (λ ended. untaken history ++ outcome_tasks (heard ended)) (settled_first history pass moment count built up)
+    ∙ ap (λ ended. untaken history ++ outcome_tasks (heard ended)) (settled_first history pass moment count stored up)
 
 -- how a request has ended then
-ended_then : (history : List Traced) (pass : PassNo) (moment count : ℕ) (id : MessageId) → AreBuilt history → AreUp history (told history moment) count →
-    option_map (λ (s : Settled). s.at) (find (is_settled_as id) (lasting settled_kind (after history pass moment count)))
-    ≡ option_or (option_map (λ (s : Settled). s.at) (find (is_settled_as id) (lasting settled_kind history))) (option_map (λ _. next_entry history) (find (λ (r : Open). same_message id r.id) (ended_first history count)))
-ended_then history pass moment count id built up =
-    let test = is_settled_as id in
+ended_then : (history : List Traced) (pass : PassNo) (moment count : ℕ) (id : MessageId) → AreStored history → AreUp history (told history moment) count →
+    ended_among id (settled_made history pass (calls.Advance moment) deeds.Nothing) ≡ option_map (λ _. next_entry history) (find (λ (r : Open). same_message id r.id) (ended_first history count))
+ended_then history pass moment count id stored up =
     let at = λ (s : Settled). s.at in
-    let before = lasting settled_kind history in
     let settle = settlement history timeout in
-    ap (λ ss. option_map at (find test ss)) (settled-append history (entry_of pass moment count))
-    ∙ ap (λ ended. option_map at (find test (before ++ ended))) (settled_first history pass moment count built up)
-    ∙ ap (option_map at) (find-append test before (map settle (ended_first history count)))
-    ∙ map-or at (find test before) (find test (map settle (ended_first history count)))
-    ∙ ap (λ o. option_or (option_map at (find test before)) (option_map at o)) (find-map test settle (ended_first history count))
-    ∙ ap (option_or (option_map at (find test before))) (map-map settle at (find (λ (r : Open). same_message id r.id) (ended_first history count)))
+    ap (ended_among id) (settled_first history pass moment count stored up)
+    ∙ ap (option_map at) (find-map (is_settled_as id) settle (ended_first history count))
+    ∙ map-map settle at (find (λ (r : Open). same_message id r.id) (ended_first history count))
 
 -- ## The stores
 
-advanced_contexts : (old new : ContextStore) (history : List Traced) (pass : PassNo) (moment count : ℕ) → ContextsStand old history → AreBuilt history → AreUp history (told history moment) count →
+advanced_contexts : (old new : ContextStore) (history : List Traced) (pass : PassNo) (moment count : ℕ) → ContextsStand old history → AreStored history → AreUp history (told history moment) count →
     new ≡ record old { waiting = old.waiting ++ map (item_of history) (timeouts history count); room = new.room } → ContextsStand new (after history pass moment count)
-advanced_contexts old new history pass moment count stands built up is_new =
+advanced_contexts old new history pass moment count stands stored up is_new =
     let entry = entry_of pass moment count in
     record {
       made = ap (λ (s : ContextStore). s.made) is_new ∙ stands.made ∙ sym (contexts_stay history entry refl);
+      closings = λ id. ap (λ (s : ContextStore). closed_in id s.closings) is_new ∙ stands.closings id ∙ sym (closed_kept history entry id (keeps_open history pass moment count));
       held = ap (λ (s : ContextStore). s.held) is_new ∙ stands.held ∙ sym (lasting_same held_kind history entry refl (λ h. refl));
       pools = ap (λ (s : ContextStore). s.pools) is_new ∙ stands.pools ∙ sym (pools_stay history entry refl);
       waiting = ap (λ (s : ContextStore). s.waiting) is_new
           ∙ ap (λ ws. ws ++ map (item_of history) (timeouts history count)) stands.waiting
           ∙ sym (map-append (item_of history) (waiting history) (timeouts history count))
-          ∙ ap (map (item_of history)) (sym (waiting_then history pass moment count built up))
+          ∙ ap (map (item_of history)) (sym (waiting_then history pass moment count stored up))
           ∙ sym (items_left history entry (record { contexts = refl; queued = refl }) (waiting (after history pass moment count)));
     }
 
-advanced_bus : (old_contexts contexts : ContextStore) (timers : List Timer) (old new : BusStore) (history : List Traced) (pass : PassNo) (moment count : ℕ) → BusStands old history → AreBuilt history → AreUp history (told history moment) count →
+advanced_bus : (old_contexts contexts : ContextStore) (timers : List Timer) (old new : BusStore) (history : List Traced) (pass : PassNo) (moment count : ℕ) → BusStands old history → AreStored history → AreUp history (told history moment) count →
     Advanced old_contexts contexts timers old new history (told history moment) count → BusStands new (after history pass moment count)
-advanced_bus old_contexts contexts timers old new history pass moment count stands built up advanced =
+advanced_bus old_contexts contexts timers old new history pass moment count stands stored up advanced =
     let entry = entry_of pass moment count in
-    let one = is_built pass moment count in
-    let consumers : LeavesConsumers history entry = record { registered = refl; kept = λ c. consumer_kept history entry c built one refl } in
+    let keeps = keeps_open history pass moment count in
+    let consumers : LeavesConsumers history entry = record { registered = refl; kept = λ c. consumer_kept history entry c keeps refl } in
     let is_new = advanced.tasks in
     record {
       consumers = ap (λ (s : BusStore). s.consumers) is_new ∙ stands.consumers
-          ∙ sym (handlers_left history entry consumers (numbers_left history entry (λ c. mailbox_kept history entry c built one refl refl)));
+          ∙ sym (handlers_left history entry consumers (numbers_left history entry (λ c. mailbox_kept history entry c keeps refl refl)));
       rings = λ a. ap (λ (s : BusStore). consumers_at a s.rings) is_new ∙ stands.rings a ∙ sym (rings_left history entry a consumers);
       choices = λ a. ap (λ (s : BusStore). choices_at a s.rings) is_new ∙ stands.choices a ∙ sym (choices_left history entry a consumers refl);
       tasks = ap (λ (s : BusStore). s.tasks) is_new
           ∙ ap (λ ts. ts ++ timed_out history count) stands.tasks
-          ∙ sym (untaken_then history pass moment count built up);
+          ∙ sym (untaken_then history pass moment count stored up);
       opened = advanced.left
           ∙ ap (map row_of) (filter_same _ _ (unsettled history) up.among)
           ∙ ap (map row_of) (sym (still_open history pass moment count));
       ended = λ id. advanced.ended id
-          ∙ ap (λ o. option_or o (option_map (λ _. next_entry history) (find (λ (r : Open). same_message id r.id) (ended_first history count)))) (stands.ended id ∙ settled_by_outcome history id built)
-          ∙ sym (ended_then history pass moment count id built up)
-          ∙ sym (settled_by_outcome (after history pass moment count) id (built_more history entry built one));
+          ∙ ap (λ o. option_or o (option_map (λ _. next_entry history) (find (λ (r : Open). same_message id r.id) (ended_first history count)))) (stands.ended id)
+          ∙ ap (option_or (settled_at history id)) (sym (ended_then history pass moment count id stored up))
+          ∙ sym (settled_at_kept history entry id stored keeps);
       given = λ id. ap (λ (s : BusStore). given_at id s.given) is_new ∙ stands.given id
           ∙ ap (λ gs. find (λ (g : Given). same_message id g.id) gs) (sym (lasting_same given_kind history entry refl (never_taken_back history entry)));
       codecs = ap (λ (s : BusStore). s.codecs) is_new ∙ stands.codecs ∙ sym (codecs_left history entry (record { added = refl; kept = λ c. refl }));
@@ -212,14 +209,14 @@ pub advances : (old_contexts contexts : ContextStore) (old_timers timers : List 
 advances old_contexts contexts old_timers timers old_bus bus history pass moment by count stands is_by has_by =
     let Has : ℕ → Type 0 = λ m. HasAdvanced old_contexts contexts timers old_bus bus history m count in
     let has : Has (told history moment) = subst Has is_by has_by in
-    let built = stands.built in
+    let stored = stands.stored in
     let up = are_up old_contexts contexts timers old_bus bus history (told history moment) count has in
     record {
-      answered = ap replies.Fired (sym (fired_then history pass moment count built up));
+      answered = ap replies.Fired (sym (fired_then history pass moment count stored up));
       stores = record {
-        built = built_more history (entry_of pass moment count) built (is_built pass moment count);
-        contexts = advanced_contexts old_contexts contexts history pass moment count stands.contexts built up has.advanced.items;
+        stored = stored_more history (entry_of pass moment count) stored (keeps_open history pass moment count).stored;
+        contexts = advanced_contexts old_contexts contexts history pass moment count stands.contexts stored up has.advanced.items;
         timers = advanced_timers timers history pass moment count up has.advanced.timers;
-        bus = advanced_bus old_contexts contexts timers old_bus bus history pass moment count stands.bus built up has.advanced;
+        bus = advanced_bus old_contexts contexts timers old_bus bus history pass moment count stands.bus stored up has.advanced;
       };
     }

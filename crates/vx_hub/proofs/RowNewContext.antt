@@ -16,6 +16,7 @@ use Rattle.vx_call.specs.declared.reply.Task.TheVariants as tasks
 use Rattle.vx_call.specs.declared.history.Traced.{Traced}
 use Rattle.vx_call.specs.History.{plain_entry, no_mark}
 use Rattle.vx_call.specs.Built.{AreBuilt}
+use Rattle.vx_call.proofs.KeepsOpen.{call_keeps, closed_kept}
 use Rattle.vx_call.specs.Names.{next_context}
 use Rattle.vx_call.specs.Contexts.{context_kind, contexts, context_at, is_context}
 use Rattle.vx_call.specs.Given.{mode_of}
@@ -27,7 +28,7 @@ use Rattle.vx_call.proofs.Contexts.{keeps_context_at}
 use Rattle.vx_call.proofs.Each.{Each-both}
 use Rattle.vx_call.proofs.Items.{is_of_bus}
 use Rattle.vx_call.proofs.Lasting.{lasting_same, lasting_more}
-use Rattle.vx_context.specs.Stores.{ContextStore, lane_in, item_of}
+use Rattle.vx_context.specs.Stores.{closed_in, ContextStore, lane_in, item_of}
 use Rattle.vx_context.specs.Stands.{ContextsStand, ContextsFollow, IsNext}
 use Rattle.vx_context.proofs.Items.{never_ended}
 use Rattle.vx_bus_store.proofs.Frames.{waiting_left, pools_stay}
@@ -63,9 +64,10 @@ items_stay history new built named =
 
 -- a new context
 pub makes_context : (old new : ContextStore) (history : List Traced) (at : EntryNo) (pass : PassNo) → ContextsStand old history → AreBuilt history → NameContexts history → IsNext at history → already_holding history pass ≡ None →
-    new ≡ record old { made = old.made ++ record { id = record { entry = at; instance = 0 }; maker = Some pass; lane = lanes.Own (record { entry = at; instance = 0 }); jobs = lanes.Pool } ∷ [] } →
+    new ≡ record old { made = old.made ++ record { id = record { entry = at; instance = 0 }; maker = Some pass; lane = lanes.Own (record { entry = at; instance = 0 }); jobs = lanes.Pool } ∷ []; closings = new.closings } →
+    ((id : ContextId) → closed_in id new.closings ≡ closed_in id old.closings) →
     ContextsFollow new history pass calls.NewContext (replies.Context (record { entry = at; instance = 0 }))
-makes_context old new history at pass stands built named is_next free is_new =
+makes_context old new history at pass stands built named is_next free is_new none_closed =
     let context = λ (n : ℕ). (let c : ContextId = record { entry = record { 0 = n }; instance = 0 } in c) in
     let made = λ (n : ℕ). (let c : Context = record { id = context n; maker = Some pass; lane = lanes.Own (context n); jobs = lanes.Pool } in c) in
     let entry = plain_entry pass calls.NewContext (replies.Context (context at.0)) no_mark in
@@ -75,6 +77,7 @@ makes_context old new history at pass stands built named is_next free is_new =
         made = ap (λ (s : ContextStore). s.made) is_new
             ∙ ap (λ cs. cs ++ made at.0 ∷ []) stands.made ∙ ap (λ n. contexts history ++ made n ∷ []) is_next
             ∙ sym (lasting_more context_kind history entry (never_ended history entry));
+        closings = λ id. none_closed id ∙ stands.closings id ∙ sym (closed_kept history entry id (call_keeps history entry (record { call = refl; mark = refl }) refl));
         held = ap (λ (s : ContextStore). s.held) is_new ∙ stands.held ∙ sym (lasting_same held_kind history entry refl (λ h. refl));
         pools = ap (λ (s : ContextStore). s.pools) is_new ∙ stands.pools ∙ sym (pools_stay history entry refl);
         waiting = ap (λ (s : ContextStore). s.waiting) is_new ∙ stands.waiting ∙ items_stay history entry built named

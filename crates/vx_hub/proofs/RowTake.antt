@@ -31,7 +31,7 @@ use Rattle.vx_call.specs.declared.history.Traced.{Traced}
 use Rattle.vx_call.specs.declared.history.Consumer.{Consumer}
 use Rattle.vx_call.specs.History.{plain_entry, no_mark, lasting}
 use Rattle.vx_data.specs.Ids.{same_message}
-use Rattle.vx_call.specs.Built.{IsBuilt, AreBuilt}
+use Rattle.vx_call.specs.Built.{AreStored, AreBuilt}
 use Rattle.vx_call.specs.Closings.{hub_closed_at}
 use Rattle.vx_call.specs.Contexts.{context_at, is_context}
 use Rattle.vx_call.specs.Given.{context_of, mode_of, given, given_kind, given_by_task}
@@ -44,7 +44,11 @@ use Rattle.vx_call.specs.Owners.{context_owning}
 use Rattle.vx_call.specs.Pools.{pools}
 use Rattle.vx_call.specs.Refusals.{unless_refused}
 use Rattle.vx_call.specs.Rows.{take_refusal, handed_out, unless_closed}
-use Rattle.vx_call.proofs.Built.{built_more, hub_is_open, live_of_context}
+use Rattle.vx_call.proofs.Stored.{stored_more, live_of_context}
+use Rattle.vx_call.proofs.KeepsOpen.{KeepsOpen, call_keeps, closed_kept}
+use Rattle.vx_call.proofs.Dropped.{settled_at_same}
+use Rattle.vx_call.proofs.Built.{hub_is_open}
+use Rattle.vx_hub.specs.Stands.{AreOfBuiltHistory}
 use Rattle.vx_call.proofs.Lanes.{same_lane-true}
 use Rattle.vx_call.proofs.Lasting.{lasting_more, lasting-append}
 use Rattle.vx_call.proofs.Each.{Each, Each-at, weaken}
@@ -56,12 +60,12 @@ use Rattle.vx_call.proofs.Mailboxes.{mailbox_unmoved}
 use Rattle.vx_call.proofs.Taking.{take_numbers}
 use Rattle.vx_call.proofs.Tasks.{same_task-self, same_task-swap, untaken_apart}
 use Rattle.vx_call.proofs.Waiting.{same_waiting, waiting_apart, waiting_untaken}
-use Rattle.vx_context.specs.Stores.{ContextStore, lane_in, item_of, may_run_of, may_run_in, is_full_in, is_ready}
+use Rattle.vx_context.specs.Stores.{closed_in, ContextStore, lane_in, item_of, may_run_of, may_run_in, is_full_in, is_ready}
 use Rattle.vx_context.specs.Stands.{ContextsStand, IsNext}
 use Rattle.vx_context.proofs.Items.{contexts_stay, items_left}
 use Rattle.vx_bus_store.specs.Stores.{BusStore, row_of, is_of_kind, is_kept_by_bus, has_task, without_first}
-use Rattle.vx_bus_store.specs.Stands.{StoresStand, BusStands, Follows, AreOfOneHistory}
-use Rattle.vx_bus_store.proofs.Frames.{pools_stay, never_taken_back, consumer_kept, contexts_left, timers_left, bus_left, handlers_left, numbers_left, rings_left, choices_left, requests_left, ended_left, codecs_left, rules_left, LeavesWaiting, LeavesRequests, LeavesConsumers, LeavesNumbers}
+use Rattle.vx_bus_store.specs.Stands.{StoresStand, BusStands, Follows}
+use Rattle.vx_bus_store.proofs.Frames.{pools_stay, never_taken_back, consumer_kept, contexts_left, timers_left, bus_left, handlers_left, numbers_left, rings_left, choices_left, requests_left, codecs_left, rules_left, LeavesWaiting, LeavesRequests, LeavesConsumers, LeavesNumbers}
 use Rattle.vx_bus_store.proofs.KeptRequests.{request_kept}
 use Rattle.vx_bus_store.proofs.Positions.{find_from_position, find_from_no_position}
 use Rattle.vx_hub.specs.Named.{NameContexts}
@@ -105,14 +109,14 @@ ready_there store history lane item stands there =
     ∙ ap (λ b. not (is_full history lane) && (is_on history lane item && b)) (may_there history item mode)
 
 -- the store finds the next task at its place
-pub place_there : (store : ContextStore) (history : List Traced) (lane : Lane) → ContextsStand store history → AreBuilt history → NameContexts history →
+pub place_there : (store : ContextStore) (history : List Traced) (lane : Lane) → ContextsStand store history → Each (λ item. is_context history item.context ≡ true) (waiting history) →
     position (is_ready store.pools store.held lane) store.waiting ≡ position (may_take history lane) (waiting history)
-place_there store history lane stands built named =
+place_there store history lane stands there =
     let ready = is_ready store.pools store.held lane in
     ap (position ready) stands.waiting
     ∙ position-map (item_of history) ready (may_take history lane) (waiting history)
     (weaken (λ item. is_context history item.context ≡ true) (λ item. ready (item_of history item) ≡ may_take history lane item) (waiting history)
-    (λ item there. ready_there store history lane item stands there) (waiting_there history built named))
+    (λ item is_there. ready_there store history lane item stands is_there) there)
 
 -- nothing is closed, so the row is that of the next task
 take_answers : (history : List Traced) (pass : PassNo) (lane : Lane) (o : Option Waiting) → AreBuilt history → take_refusal history pass lane ≡ None → next history lane ≡ o →
@@ -123,28 +127,28 @@ take_answers history pass lane o built free is =
     ∙ ap handed_out is)
 
 -- the lane has no next task
-pub takes_none : (contexts : ContextStore) (timers : List Timer) (bus : BusStore) (history : List Traced) (pass : PassNo) (lane : Lane) → StoresStand contexts timers bus history → NameContexts history →
+pub takes_none : (contexts : ContextStore) (timers : List Timer) (bus : BusStore) (history : List Traced) (pass : PassNo) (lane : Lane) → StoresStand contexts timers bus history → AreBuilt history → NameContexts history →
     take_refusal history pass lane ≡ None → position (is_ready contexts.pools contexts.held lane) contexts.waiting ≡ None → Follows contexts timers bus history pass (calls.Take lane) replies.Idle
-takes_none contexts timers bus history pass lane stands named free none =
+takes_none contexts timers bus history pass lane stands built named free none =
     let entry = plain_entry pass (calls.Take lane) replies.Idle no_mark in
-    let built = stands.built in
-    let one : IsBuilt entry = record { call = refl; mark = refl } in
-    let idle : next history lane ≡ None = find_from_no_position (may_take history lane) (waiting history) (sym (place_there contexts history lane stands.contexts built named) ∙ none) in
+    let keeps : KeepsOpen history entry = call_keeps history entry (record { call = refl; mark = refl }) refl in
+    let idle : next history lane ≡ None = find_from_no_position (may_take history lane) (waiting history) (sym (place_there contexts history lane stands.contexts (waiting_there history built named)) ∙ none) in
     let waits : LeavesWaiting history entry = record { none = refl; kept = λ w. refl } in
-    let requests : LeavesRequests history entry = record { opened = refl; settled = λ r. request_kept history entry r built one refl } in
+    let requests : LeavesRequests history entry = record { opened = refl; settled = λ r. request_kept history entry r keeps refl } in
     record {
       answered = take_answers history pass lane None built free idle;
       stores = record {
-        built = built_more history entry built one;
-        contexts = contexts_left contexts history entry (record { items = record { contexts = refl; queued = refl }; pools = refl; held = refl; finished = λ h. refl; waiting = waits }) stands.contexts;
+        stored = stored_more history entry stands.stored keeps.stored;
+        contexts = contexts_left contexts history entry (record { closings = refl; items = record { contexts = refl; queued = refl }; pools = refl; held = refl; finished = λ h. refl; waiting = waits }) stands.contexts;
         timers = timers_left timers history entry requests stands.timers;
-        bus = bus_left bus history entry built one (record {
-          consumers = record { registered = refl; kept = λ c. consumer_kept history entry c built one refl };
+        bus = bus_left bus history entry stands.stored (record {
+          consumers = record { registered = refl; kept = λ c. consumer_kept history entry c keeps refl };
           numbers = numbers_left history entry (λ c. mailbox_unmoved history entry c refl);
           choices = refl;
           tasks = record { made = refl; kept = λ t. refl };
           requests = requests;
           settled = refl;
+          dropped = refl;
           given = refl;
           codecs = record { added = refl; kept = λ c. refl };
           rules = record { added = refl; kept = λ r. refl };
@@ -212,6 +216,7 @@ taken_contexts old new history at pass lane i item w stands is_next waits is_ite
     λ n from context mode kind. record { pass = pass; at = record { 0 = n }; lane = from; context = context; mode = mode; kind = kind } in
     record {
       made = ap (λ (s : ContextStore). s.made) is_new ∙ stands.made ∙ sym (contexts_stay history entry refl);
+      closings = λ id. ap (λ (s : ContextStore). closed_in id s.closings) is_new ∙ stands.closings id ∙ sym (closed_kept history entry id (call_keeps history entry (record { call = refl; mark = refl }) refl));
       held = ap (λ (s : ContextStore). s.held) is_new
           ∙ ap (λ hs. hs ++ taken at.0 item.lane (Some item.context) item.mode item.kind ∷ []) stands.held
           ∙ ap (λ n. held history ++ taken n item.lane (Some item.context) item.mode item.kind ∷ []) is_next
@@ -230,12 +235,12 @@ taken_contexts old new history at pass lane i item w stands is_next waits is_ite
 -- ## The task at the place
 
 -- the bus has the task that waits, which was made and not taken
-pub find_task : (bus : BusStore) (history : List Traced) (i : ℕ) (w : Waiting) (kind : ItemKind) → BusStands bus history → AreBuilt history → WaitsAt history i w → kind_of w.task ≡ kind →
+pub find_task : (bus : BusStore) (history : List Traced) (i : ℕ) (w : Waiting) (kind : ItemKind) → BusStands bus history → is_of_bus w.task ≡ true → WaitsAt history i w → kind_of w.task ≡ kind →
     find (is_of_kind kind) bus.tasks ≡ Some w.task
-find_task bus history i w kind stands built waits is_kind =
+find_task bus history i w kind stands of waits is_kind =
     ap (find (is_of_kind kind)) stands.tasks
     ∙ ap (λ k. find (is_of_kind k) (untaken history)) (sym is_kind)
-    ∙ at_place (λ item. is_of_bus item.task ≡ true → find (same_task item.task) (untaken history) ≡ Some item.task) history i w waits (waiting_untaken history) (bus_at history i w waits built)
+    ∙ at_place (λ item. is_of_bus item.task ≡ true → find (same_task item.task) (untaken history) ≡ Some item.task) history i w waits (waiting_untaken history) of
 
 -- an entry that takes it leaves the others
 taken_untaken : (history : List Traced) (pass : PassNo) (lane : Lane) (task : Task) → is_of_bus task ≡ true →
@@ -246,20 +251,20 @@ taken_untaken history pass lane task of =
     ∙ sym (without_first-apart (same_task task) (untaken history) (alone task (untaken history) of (untaken_apart history)))
 
 -- the task that waits is there
-pub task_there : (contexts : ContextStore) (timers : List Timer) (bus : BusStore) (i : ℕ) (item : Item) → AreOfOneHistory contexts timers bus → i < length contexts.waiting →
+pub task_there : (contexts : ContextStore) (timers : List Timer) (bus : BusStore) (i : ℕ) (item : Item) → AreOfBuiltHistory contexts timers bus → i < length contexts.waiting →
     item ≡ get_or contexts.waiting i item → has_task item.kind bus.tasks ≡ true
 task_there contexts timers bus i item one inside read =
     ∥∥₁_elim one (Bool-set (has_task item.kind bus.tasks) true) (λ p.
-    let there = item_there contexts p.0 i item p.1.contexts inside read in
-    ap is_some (find_task bus p.0 i there.0 item.kind p.1.bus p.1.built there.1.0 (ap (λ (x : Item). x.kind) (sym there.1.1))))
+    let there = item_there contexts p.0 i item p.1.1.contexts inside read in
+    ap is_some (find_task bus p.0 i there.0 item.kind p.1.1.bus (bus_at p.0 i there.0 there.1.0 p.1.0) there.1.0 (ap (λ (x : Item). x.kind) (sym there.1.1))))
 
 -- and is the bus's
-pub task_kept : (contexts : ContextStore) (timers : List Timer) (bus : BusStore) (i : ℕ) (item : Item) → AreOfOneHistory contexts timers bus → i < length contexts.waiting →
+pub task_kept : (contexts : ContextStore) (timers : List Timer) (bus : BusStore) (i : ℕ) (item : Item) → AreOfBuiltHistory contexts timers bus → i < length contexts.waiting →
     item ≡ get_or contexts.waiting i item → is_kept_by_bus item.kind ≡ true
 task_kept contexts timers bus i item one inside read =
     ∥∥₁_elim one (Bool-set (is_kept_by_bus item.kind) true) (λ p.
-    let there = item_there contexts p.0 i item p.1.contexts inside read in
-    ap (λ (x : Item). is_kept_by_bus x.kind) there.1.1 ∙ kept_by_bus there.0.task (bus_at p.0 i there.0 there.1.0 p.1.built))
+    let there = item_there contexts p.0 i item p.1.1.contexts inside read in
+    ap (λ (x : Item). is_kept_by_bus x.kind) there.1.1 ∙ kept_by_bus there.0.task (bus_at p.0 i there.0 there.1.0 p.1.0))
 
 -- what a Take gives out
 given_out : (history : List Traced) (pass : PassNo) (lane : Lane) (w : Waiting) (id : MessageId) → context_of history w.task ≡ Some w.context →
@@ -272,17 +277,17 @@ given_out history pass lane w id owned =
     ∙ ap (λ c. option_or (given history id) (find (λ (g : Given). same_message id g.id) (given_by_task c w.task))) owned
 
 -- what the bus has after a Take
-pub taken_bus : (old new : BusStore) (history : List Traced) (pass : PassNo) (lane : Lane) (i : ℕ) (w : Waiting) (kind : ItemKind) (context : ContextId) → BusStands old history → AreBuilt history →
+pub taken_bus : (old new : BusStore) (history : List Traced) (pass : PassNo) (lane : Lane) (i : ℕ) (w : Waiting) (kind : ItemKind) (context : ContextId) → BusStands old history → is_of_bus w.task ≡ true → AreStored history →
     WaitsAt history i w → kind_of w.task ≡ kind → w.context ≡ context → new ≡ record old { tasks = without_first (is_of_kind kind) old.tasks; given = new.given; room = new.room } →
     ((id : MessageId) → given_at id new.given ≡ option_or (given_at id old.given) (find (λ (g : Given). same_message id g.id) (given_by_task (Some context) w.task))) →
     BusStands new (history ++ plain_entry pass (calls.Take lane) (replies.Task w.task) no_mark ∷ [])
-taken_bus old new history pass lane i w kind context stands built waits is_kind is_context is_new is_given =
+taken_bus old new history pass lane i w kind context stands of stored waits is_kind is_context is_new is_given =
     let entry = plain_entry pass (calls.Take lane) (replies.Task w.task) no_mark in
-    let one : IsBuilt entry = record { call = refl; mark = refl } in
-    let consumers : LeavesConsumers history entry = record { registered = refl; kept = λ c. consumer_kept history entry c built one refl } in
+    let keeps : KeepsOpen history entry = call_keeps history entry (record { call = refl; mark = refl }) refl in
+    let consumers : LeavesConsumers history entry = record { registered = refl; kept = λ c. consumer_kept history entry c keeps refl } in
     let N : Consumer → Waiting → Type 0 = λ consumer item. numbers_of (mailbox (history ++ plain_entry pass (calls.Take lane) (replies.Task item.task) no_mark ∷ []) consumer) ≡ numbers_of (mailbox history consumer) in
     let numbers : LeavesNumbers history entry = λ consumer is_live.
-    (let owner = live_of_context history consumer built is_live in
+    (let owner = live_of_context history consumer stored is_live in
     at_place (N consumer) history i w waits (take_numbers history pass lane no_mark consumer owner.0 (ap context_owning owner.1) is_live)) in
     record {
       consumers = ap (λ (s : BusStore). s.consumers) is_new ∙ stands.consumers ∙ sym (handlers_left history entry consumers numbers);
@@ -291,10 +296,10 @@ taken_bus old new history pass lane i w kind context stands built waits is_kind 
       tasks = ap (λ (s : BusStore). s.tasks) is_new
           ∙ ap (without_first (is_of_kind kind)) stands.tasks
           ∙ ap (λ k. without_first (is_of_kind k) (untaken history)) (sym is_kind)
-          ∙ sym (taken_untaken history pass lane w.task (bus_at history i w waits built));
+          ∙ sym (taken_untaken history pass lane w.task of);
       opened = ap (λ (s : BusStore). s.requests.waiting) is_new ∙ stands.opened
-          ∙ ap (map row_of) (sym (requests_left history entry (record { opened = refl; settled = λ r. request_kept history entry r built one refl })));
-      ended = λ id. ap (λ (s : BusStore). ended_at id s.requests.ended) is_new ∙ stands.ended id ∙ sym (ended_left history entry id built one refl);
+          ∙ ap (map row_of) (sym (requests_left history entry (record { opened = refl; settled = λ r. request_kept history entry r keeps refl })));
+      ended = λ id. ap (λ (s : BusStore). ended_at id s.requests.ended) is_new ∙ stands.ended id ∙ sym (settled_at_same history entry id stored keeps refl);
       given = λ id. is_given id
           ∙ ap (λ g. option_or g (find (λ (g : Given). same_message id g.id) (given_by_task (Some context) w.task))) (stands.given id)
           ∙ ap (λ k. option_or (given history id) (find (λ (g : Given). same_message id g.id) (given_by_task (Some k) w.task))) (sym is_context)
@@ -317,7 +322,7 @@ ready_on contexts lane item ready =
 
 -- the task at the lane's next place is handed out
 pub takes_task : (contexts new_contexts : ContextStore) (timers : List Timer) (bus new_bus : BusStore) (history : List Traced) (at : EntryNo) (pass : PassNo) (lane : Lane) (i : ℕ) (item : Item) (task : Task) →
-    StoresStand contexts timers bus history → NameContexts history → IsNext at history → take_refusal history pass lane ≡ None →
+    StoresStand contexts timers bus history → AreBuilt history → NameContexts history → IsNext at history → take_refusal history pass lane ≡ None →
     position (is_ready contexts.pools contexts.held lane) contexts.waiting ≡ Some i → item ≡ get_or contexts.waiting i item →
     new_contexts ≡ record contexts {
       waiting = remove contexts.waiting i;
@@ -328,30 +333,30 @@ pub takes_task : (contexts new_contexts : ContextStore) (timers : List Timer) (b
     new_bus ≡ record bus { tasks = without_first (is_of_kind item.kind) bus.tasks; given = new_bus.given; room = new_bus.room } →
     ((id : MessageId) → given_at id new_bus.given ≡ option_or (given_at id bus.given) (find (λ (g : Given). same_message id g.id) (given_by_task (Some item.context) task))) →
     Follows new_contexts timers new_bus history pass (calls.Take lane) (replies.Task task)
-takes_task contexts new_contexts timers bus new_bus history at pass lane i item task stands named is_next free place read is_contexts is_task is_bus is_given =
-    let built = stands.built in
+takes_task contexts new_contexts timers bus new_bus history at pass lane i item task stands built named is_next free place read is_contexts is_task is_bus is_given =
     let test = is_ready contexts.pools contexts.held lane in
     let found_at = position-Some test contexts.waiting i item place in
     let on : lane ≡ item.lane = ready_on contexts lane item (ap test read ∙ found_at.1) in
     let there = item_there contexts history i item stands.contexts found_at.0 read in
     let w = there.0 in
     let waits = there.1.0 in
+    let of = bus_at history i w waits built in
     let kind : kind_of w.task ≡ item.kind = ap (λ (x : Item). x.kind) (sym there.1.1) in
     let context : w.context ≡ item.context = ap (λ (x : Item). x.context) (sym there.1.1) in
-    let found : Some w.task ≡ Some task = sym (find_task bus history i w item.kind stands.bus built waits kind) ∙ is_task in
+    let found : Some w.task ≡ Some task = sym (find_task bus history i w item.kind stands.bus of waits kind) ∙ is_task in
     let same : w.task ≡ task = cc in
     let next_there : next history lane ≡ Some w =
-    find_from_position (may_take history lane) (waiting history) i w (sym (place_there contexts history lane stands.contexts built named) ∙ place) ∙ ap Some (waits.read w) in
+    find_from_position (may_take history lane) (waiting history) i w (sym (place_there contexts history lane stands.contexts (waiting_there history built named)) ∙ place) ∙ ap Some (waits.read w) in
     let entry = plain_entry pass (calls.Take lane) (replies.Task w.task) no_mark in
-    let one : IsBuilt entry = record { call = refl; mark = refl } in
+    let keeps : KeepsOpen history entry = call_keeps history entry (record { call = refl; mark = refl }) refl in
     let P : Task → Type 0 = λ t. Follows new_contexts timers new_bus history pass (calls.Take lane) (replies.Task t) in
     let G : Task → Type 0 = λ t. (id : MessageId) → given_at id new_bus.given ≡ option_or (given_at id bus.given) (find (λ (g : Given). same_message id g.id) (given_by_task (Some item.context) t)) in
     subst P same (record {
       answered = take_answers history pass lane (Some w) built free next_there;
       stores = record {
-        built = built_more history entry built one;
+        stored = stored_more history entry stands.stored keeps.stored;
         contexts = taken_contexts contexts new_contexts history at pass lane i item w stands.contexts is_next waits there.1.1 on is_contexts;
-        timers = timers_left timers history entry (record { opened = refl; settled = λ r. request_kept history entry r built one refl }) stands.timers;
-        bus = taken_bus bus new_bus history pass lane i w item.kind item.context stands.bus built waits kind context is_bus (subst G (sym same) is_given);
+        timers = timers_left timers history entry (record { opened = refl; settled = λ r. request_kept history entry r keeps refl }) stands.timers;
+        bus = taken_bus bus new_bus history pass lane i w item.kind item.context stands.bus of stands.stored waits kind context is_bus (subst G (sym same) is_given);
       };
     })

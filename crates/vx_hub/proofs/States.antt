@@ -13,7 +13,8 @@ use Rattle.vx_call.specs.Contexts.{context_made, context_kind, contexts, is_cont
 use Rattle.vx_call.specs.Deployments.{deployment_of, deployment_of_held}
 use Rattle.vx_call.specs.Held.{held_context}
 use Rattle.vx_call.specs.States.{states_due}
-use Rattle.vx_call.proofs.Built.{built_front, built_last, under}
+use Rattle.vx_call.proofs.Stored.{under}
+use Rattle.vx_call.proofs.Built.{built_front, built_last}
 use Rattle.vx_call.proofs.Each.{Each, Each-find, weaken, accepted, lasting_each}
 
 abbrev IsOutside : Context → Type 0

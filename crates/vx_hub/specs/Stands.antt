@@ -1,4 +1,5 @@
 -- The histories that a hub stands for.
+use Rattle.vx_call.specs.Built.{AreBuilt}
 use Rattle.std.specs.Prelude.{◌≡◌, ℕ, ◌<◌, false, List, [], ◌∷◌, ◌++◌, Result, Ok, Err}
 use Rattle.vx_data.specs.declared.ids.PassNo.{PassNo}
 use Rattle.vx_timer.specs.declared.timers.Timer.{Timer}
@@ -22,11 +23,12 @@ use Rattle.vx_hub.specs.Stores.{HubStore}
 -- ## The hub
 
 -- the number of passes, the moment and the stores are those of the history, whose consumers and requests name contexts
--- that are there
+-- that are there, and whose calls are those that the hub makes so far
 pub record PartsStand (pass_count : ℕ) (moment : ℕ) (context_store : ContextStore) (timer_list : List Timer) (bus_store : BusStore) (history : List Traced) : Type 0 where
   pub passes : pass_count ≡ passes history
   pub now : moment ≡ now history
   pub named : NameContexts history
+  pub built : AreBuilt history
   pub stores : StoresStand context_store timer_list bus_store history
 
 -- what the hub has counted and its parts are those of the history
@@ -67,6 +69,10 @@ finished (Err refusal) = replies.Refused refusal
 pub record PartsFollow (pass_count : ℕ) (moment : ℕ) (contexts : ContextStore) (timers : List Timer) (bus : BusStore) (history : List Traced) (pass : PassNo) (call : Call) (reply : Reply) : Type 0 where
   pub answered : reply ≡ row history pass call
   pub parts : PartsStand pass_count moment contexts timers bus (history ++ plain_entry pass call reply no_mark ∷ [])
+
+-- the stores are those of some history of the calls that the hub makes so far
+abbrev pub AreOfBuiltHistory : ContextStore → List Timer → BusStore → Type 0
+AreOfBuiltHistory contexts timers bus = ∥ ((history : List Traced) × (AreBuilt history × StoresStand contexts timers bus history)) ∥₁
 
 -- the hub's parts are those of some history, legal or not
 abbrev pub IsOfHistory : HubStore → Type 0

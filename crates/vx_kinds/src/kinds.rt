@@ -30,7 +30,7 @@ impl HostKinds {
 }
 
 /// Whether there is a kind of this name.
-fn is_kind(name: &[u8]) -> bool
+pub fn is_kind(name: &[u8]) -> bool
     ensures { result ≡ is_some (place_of name.now) }
 {
     name == b"echo".as_slice()

@@ -20,7 +20,7 @@ pub use counter::Counter;
 pub use echo::Echo;
 pub use failer::Failer;
 pub use host::HostVerticle;
-pub use kinds::HostKinds;
+pub use kinds::{HostKinds, is_kind};
 pub use laws::states_are_read_as_written;
 pub use parent::Parent;
 pub use relay::Relay;

@@ -32,3 +32,4 @@ pub mod Childless
 pub mod Opened
 pub mod Resting
 pub mod Undeploying
+pub mod Running

@@ -8,7 +8,6 @@ use Rattle.vx_data.specs.declared.ids.MessageId.{MessageId}
 use Rattle.vx_data.specs.declared.ids.PassNo.{PassNo}
 use Rattle.vx_message.specs.declared.Context.{Context}
 use Rattle.vx_message.specs.declared.Mode.TheVariants as modes
-use Rattle.vx_message.specs.Lanes.{same_lane}
 use Rattle.vx_message.specs.declared.Lane.{Lane}
 use Rattle.vx_message.specs.declared.Lane.TheVariants as lanes
 use Rattle.vx_message.specs.declared.Outcome.{Outcome}

@@ -129,7 +129,7 @@ taken before new lane task called replied =
 -- ## Handlers of a context
 
 -- a Take that hands out a handler's task of the context
-record Starts (context : ContextId) (before : List Traced) (call : Call) (reply : Reply) : Type 0 where
+pub record Starts (context : ContextId) (before : List Traced) (call : Call) (reply : Reply) : Type 0 where
   pub lane : Lane
   pub task : Task
   pub called : call ≡ calls.Take lane
@@ -147,7 +147,7 @@ is_handler context modes.Ordered o its = absurd cc
 is_handler context modes.Free o its = absurd cc
 
 -- the context of a handler that begins does not run
-not_running : (context : ContextId) (now : List Traced) (new : Traced) → MayFollow now new → Starts context now new.entry.call new.entry.reply → runs now context ≡ false
+pub not_running : (context : ContextId) (now : List Traced) (new : Traced) → MayFollow now new → Starts context now new.entry.call new.entry.reply → runs now context ≡ false
 not_running context now new may start =
     let Owned : Waiting → Type 0 = λ x. context_of now x.task ≡ Some x.context in
     let may_next = λ (item : Waiting). is_on now start.lane item && may_run now item (mode_of now item.task) in
@@ -191,7 +191,7 @@ none_found test [] none = refl
 none_found test (h ∷ hs) none =
     elim (test h) as (λ b. lane_held_by (cond b (Some h) (find test hs)) ≡ None → (b || list_any test hs) ≡ false) [ true ↦ λ some. absurd cc | false ↦ λ later. none_found test hs later ] none
 
-refused_none : (o : Option Refusal) (reply : Reply) (task : Task) → unless_refused o reply ≡ replies.Task task → o ≡ None
+pub refused_none : (o : Option Refusal) (reply : Reply) (task : Task) → unless_refused o reply ≡ replies.Task task → o ≡ None
 refused_none None reply task h = refl
 refused_none (Some refusal) reply task h = absurd cc
 

@@ -1,5 +1,5 @@
 -- What options choose: their names, the one text of an option, and headers one after another.
-use Rattle.std.proofs.Common.{◌≡◌, ℕ, ◌+◌, map, is_some, List, [], ◌∷◌, ◌++◌, length-append, Bool, true, false, cond, not, ◌||◌, arith, refl, sym, ◌∙◌, ap, Option, Some, None}
+use Rattle.std.proofs.Common.{◌≡◌, ℕ, ◌+◌, map, is_some, List, [], ◌∷◌, ◌++◌, length-append, Bool, true, false, cond, not, ◌||◌, arith, refl, sym, ◌∙◌, ap, Option, Some, None, subst}
 use Rattle.std.proofs.lemmas.Bool.Decides.{nat_tests}
 use Rattle.std.specs.List.{list_any}
 use Rattle.std.specs.Option.{option_to_list}
@@ -72,3 +72,20 @@ header_next headers new (Some header) more all h e = by_test (too_many (headers 
 
 pub header_last : (headers : List (List ℕ × List ℕ)) (read all : Option (List (List ℕ × List ℕ))) → onto headers read ≡ all → read ≡ Some [] → too_many headers ≡ false → fitting all ≡ Some headers
 header_last headers read all h e t = ap fitting (onto_last headers read all h e) ∙ rw t refl
+
+-- ## Numbers, or any other values
+
+pub value_none : {A : Type 0} (front : List A) (read : Option A) (more all : Option (List A)) → onto front (read >>= λ value. (more >>= λ values. Some (value ∷ values))) ≡ all → (read >>= λ value. Some (front ++ value ∷ [])) ≡ None → all ≡ None
+value_none front None more all h e = sym h
+value_none front (Some value) more all h e = cc
+
+pub value_next : {A : Type 0} (front new : List A) (read : Option A) (more all : Option (List A)) → onto front (read >>= λ value. (more >>= λ values. Some (value ∷ values))) ≡ all → (read >>= λ value. Some (front ++ value ∷ [])) ≡ Some new → onto new more ≡ all
+value_next front new None more all h e = cc
+value_next {A} front new (Some value) more all h e =
+    let same : front ++ value ∷ [] ≡ new = cc in
+    subst (λ (v : List A). onto v more ≡ all) same (sym (onto_more front value more) ∙ h)
+
+-- where any number of values fits
+pub each_fits : {A : Type 0} (read : Option (List A)) → (read >>= λ values. cond true (Some values) None) ≡ read
+each_fits None = refl
+each_fits (Some values) = refl

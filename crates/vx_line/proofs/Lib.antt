@@ -2,3 +2,4 @@ pub mod Choices
 pub mod Runs
 pub mod Forms
 pub mod Built
+pub mod Deploys

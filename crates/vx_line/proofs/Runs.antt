@@ -1,16 +1,15 @@
 -- The options at the front of a tail.
-use Rattle.std.proofs.Common.{◌≡◌, ℕ, ◌+◌, ◌<◌, ◌≤◌, zero, suc, List, [], ◌∷◌, ◌++◌, map, length, drop, replicate, Bool, true, false, cond, not, ◌==◌, ◌||◌, ◌&&◌, refl, sym, ◌∙◌, ap, arith, Option, Some, None, IsTrue, subst, codes}
+use Rattle.std.proofs.Common.{◌≡◌, ℕ, ◌+◌, ◌<◌, ◌≤◌, zero, suc, List, [], ◌∷◌, ◌++◌, map, length, drop, replicate, Bool, true, false, cond, not, ◌==◌, ◌||◌, ◌&&◌, refl, sym, ◌∙◌, ap, arith, Option, Some, None, IsTrue, subst}
 use Rattle.std.specs.Str.{bytes_eq}
 use Rattle.std.specs.List.{list_any, list_all}
 use Rattle.std.proofs.lemmas.Bool.{and_parts}
-use Rattle.vx_words.specs.Grammar.{begins_with, has_no, is_word, Token, TokenValue, AHeader}
+use Rattle.vx_words.specs.Grammar.{begins_with, has_no, is_word, Token, TokenValue}
 use Rattle.vx_line.specs.Grammar.{is_plain, is_option, option_name, option_text, texts_of, name_of, Optional, One, Many, Choice, Chosen, Run, SpellAll, Tells, TellAll, Choose}
-use Rattle.vx_words.specs.Reading.{spaces_len, behind_spaces, split_word, word_at, first_word, behind_word, word_len, without_spaces, token_in, header_in, ◌>>=◌}
+use Rattle.vx_words.specs.Reading.{spaces_len, behind_spaces, split_word, word_at, first_word, behind_word, word_len, without_spaces, token_in, ◌>>=◌}
 use Rattle.vx_line.specs.Reading.{option_at, Taken, with_option, options_in, options_of, behind_options, is_known, one_of, told_in, each_in, choice_in, chosen_in, options_at}
-use Rattle.vx_line.specs.Reasons.{has_option}
+use Rattle.vx_line.specs.Tables.{has_option}
 use Rattle.vx_words.proofs.Words.{IsTail, bind_some, guard_some, is_false, has_no_all, has_no_by, word_parts, begins_word, first_again, behind_again, spaces_again, spaces_tail, tail_spaces, word_take, word_shorter}
 use Rattle.std.proofs.lemmas.List.{take-append-drop}
-use Rattle.vx_line.proofs.Choices.{next_headers}
 use Rattle.vx_words.proofs.Tokens.{token_take, token_again}
 
 -- an option stands behind spaces, and begins with a plus sign
@@ -111,20 +110,27 @@ texts_other name tail w e k = ap (λ (t : Taken). texts_of name t.words) (option
 pub texts_none : (name tail : List ℕ) → option_at tail ≡ None → texts_of name (options_of tail).words ≡ []
 texts_none name tail e = ap (λ (t : Taken). texts_of name t.words) (options_none tail e)
 
--- the headers of a tail
-abbrev pub headers_at : List ℕ → Option (List (List ℕ × List ℕ))
-headers_at tail = each_in AHeader (texts_of (codes "+h:") (options_of tail).words)
+-- what the options of one name say, each one
+abbrev pub each_at : (token : Token) → List ℕ → List ℕ → Option (List (TokenValue token))
+each_at token name tail = each_in token (texts_of name (options_of tail).words)
 
-pub headers_next : (tail : List ℕ) (w : List ℕ × List ℕ) (name text : List ℕ) → option_at tail ≡ Some w → name ≡ option_name w.0 → text ≡ option_text w.0 → bytes_eq name (codes "+h:") ≡ true →
-    headers_at tail ≡ next_headers (header_in text) (headers_at w.1)
-headers_next tail w name text e n t k =
-    ap (each_in AHeader) (texts_named (codes "+h:") tail w e (ap (λ v. bytes_eq v (codes "+h:")) (sym n) ∙ k)) ∙ ap (λ v. next_headers (header_in v) (headers_at w.1)) (sym t)
+pub each_next : (token : Token) (name tail : List ℕ) (w : List ℕ × List ℕ) (its text : List ℕ) → option_at tail ≡ Some w → its ≡ option_name w.0 → text ≡ option_text w.0 → bytes_eq its name ≡ true →
+    each_at token name tail ≡ (token_in token text >>= λ value. (each_at token name w.1 >>= λ values. Some (value ∷ values)))
+each_next token name tail w its text e n t k =
+    ap (each_in token) (texts_named name tail w e (ap (λ v. bytes_eq v name) (sym n) ∙ k)) ∙ ap (λ v. token_in token v >>= λ value. (each_at token name w.1 >>= λ values. Some (value ∷ values))) (sym t)
 
-pub headers_other : (tail : List ℕ) (w : List ℕ × List ℕ) (name : List ℕ) → option_at tail ≡ Some w → name ≡ option_name w.0 → bytes_eq name (codes "+h:") ≡ false → headers_at tail ≡ headers_at w.1
-headers_other tail w name e n k = ap (each_in AHeader) (texts_other (codes "+h:") tail w e (ap (λ v. bytes_eq v (codes "+h:")) (sym n) ∙ k))
+pub each_other : (token : Token) (name tail : List ℕ) (w : List ℕ × List ℕ) (its : List ℕ) → option_at tail ≡ Some w → its ≡ option_name w.0 → bytes_eq its name ≡ false → each_at token name tail ≡ each_at token name w.1
+each_other token name tail w its e n k = ap (each_in token) (texts_other name tail w e (ap (λ v. bytes_eq v name) (sym n) ∙ k))
 
-pub headers_none : (tail : List ℕ) → option_at tail ≡ None → headers_at tail ≡ Some []
-headers_none tail e = ap (each_in AHeader) (texts_none (codes "+h:") tail e)
+pub each_none : (token : Token) (name tail : List ℕ) → option_at tail ≡ None → each_at token name tail ≡ Some []
+each_none token name tail e = ap (each_in token) (texts_none name tail e)
+
+-- the tail behind the options
+pub rest_next : (tail : List ℕ) (w : List ℕ × List ℕ) → option_at tail ≡ Some w → (options_of tail).rest ≡ (options_of w.1).rest
+rest_next tail w e = ap (λ (t : Taken). t.rest) (options_more tail w e)
+
+pub rest_last : (tail : List ℕ) → option_at tail ≡ None → (options_of tail).rest ≡ tail
+rest_last tail e = ap (λ (t : Taken). t.rest) (options_none tail e)
 
 -- ## No option
 

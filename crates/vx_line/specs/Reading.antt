@@ -1,13 +1,12 @@
--- Reading a line from left to right. A tail is what is left behind a word: it is empty or begins with a space.
-use Rattle.std.specs.Prelude.{ℕ, List, [], ◌∷◌, ◌++◌, length, map, zero, suc, Bool, Option, Some, None, if◌then◌else◌}
+-- Reading the forms of lines from left to right. A tail is what is left behind a word: it is empty or begins with a space.
+use Rattle.std.specs.Prelude.{ℕ, ℤ, List, [], ◌∷◌, ◌++◌, length, map, zero, suc, Bool, Option, Some, None, if◌then◌else◌}
 use Rattle.std.specs.List.{list_all, list_any}
-use Rattle.std.specs.Str.{bytes_eq, is_utf8}
+use Rattle.std.specs.Str.{bytes_eq}
 use Rattle.vx_data.specs.HeaderLists.{too_many}
-use Rattle.vx_call.specs.declared.call.Call.{Call}
-use Rattle.vx_line.specs.declared.command.Command.{Command}
+use Rattle.vx_line.specs.declared.instruction.Instruction.{Instruction}
 use Rattle.vx_words.specs.Grammar.{begins_with, Token, TokenValue}
-use Rattle.vx_line.specs.Grammar.{is_silent, Optional, One, Many, name_of, Choice, Chosen, option_name, texts_of, Form, forms}
-use Rattle.vx_words.specs.Reading.{behind_spaces, behind_word, first_word, header_in, pass_at, token_in, values_at, without_spaces, ◌>>=◌}
+use Rattle.vx_line.specs.Grammar.{Optional, One, Many, name_of, Choice, Chosen, option_name, texts_of, Form}
+use Rattle.vx_words.specs.Reading.{behind_spaces, behind_word, first_word, header_in, signed_in, token_in, values_at, ◌>>=◌}
 
 -- ## Options
 
@@ -62,6 +61,10 @@ each_in token (text ∷ texts) = token_in token text >>= λ value. (each_in toke
 abbrev pub header_onto : List (List ℕ × List ℕ) → List ℕ → Option (List (List ℕ × List ℕ))
 header_onto headers text = header_in text >>= λ header. (if too_many (headers ++ header ∷ []) then None else Some (headers ++ header ∷ []))
 
+-- numbers with one more, which is spelled by a text
+abbrev pub number_onto : List ℤ → List ℕ → Option (List ℤ)
+number_onto numbers text = signed_in 63 text >>= λ number. Some (numbers ++ number ∷ [])
+
 -- what the words of an option choose
 abbrev pub choice_in : (option : Optional) → List (List ℕ) → Option (Choice option)
 choice_in (One name token) words = one_of (texts_of name words) >>= told_in token
@@ -77,24 +80,13 @@ options_at [] tail = Some (tt, tail)
 options_at (option ∷ options) tail =
     behind_options (map name_of (option ∷ options)) tail >>= λ rest. (chosen_in (option ∷ options) (options_of tail).words >>= λ chosen. Some (chosen, rest))
 
--- ## Lines
+-- ## Forms
 
-abbrev pub form_at : Form → List ℕ → Option Call
+-- what a line of this form has done, by what stands behind its first word
+abbrev pub form_at : Form → List ℕ → Option Instruction
 form_at form tail = options_at form.options tail >>= λ x. (values_at form.tokens form.ending x.1 >>= λ values. Some (form.make x.0 values))
 
--- the call of a line by its first word
-abbrev pub call_by : List Form → List ℕ → List ℕ → Option Call
-call_by [] word tail = None
-call_by (form ∷ more) word tail = if bytes_eq word form.word then form_at form tail else call_by more word tail
-
-unfoldable pub call_at : List ℕ → List ℕ → Option Call
-call_at word tail = call_by forms word tail
-
--- the call of a line, from its first word on
-unfoldable pub command_at : ℕ → List ℕ → Option Command
-command_at passes bytes =
-    pass_at passes bytes >>= λ x. (call_at (first_word x.1) (behind_word x.1) >>= λ call. Some (record { pass = x.0; call = call }))
-
--- what a line says, where there are so many passes: a call, or none
-unfoldable pub said_at : ℕ → List ℕ → Option (Option Command)
-said_at passes line = if is_utf8 line then (if is_silent line then Some None else (command_at passes (without_spaces line) >>= λ command. Some (Some command))) else None
+-- the same of the form with this first word
+abbrev pub form_by : List Form → List ℕ → List ℕ → Option Instruction
+form_by [] word tail = None
+form_by (form ∷ more) word tail = if bytes_eq word form.word then form_at form tail else form_by more word tail

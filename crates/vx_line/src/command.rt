@@ -1,27 +1,21 @@
 ghost use Rattle.std.specs.Prelude.{◌≡◌};
 
-use vx_call::Call;
+use crate::instruction::Instruction;
 use vx_data::PassNo;
 
-/// A call, and the pass that makes it.
+/// An instruction, and the pass that it is for.
+#[derive(Drop)]
 pub struct Command {
     pub pass: PassNo,
-    pub call: Call,
+    pub instruction: Instruction,
 }
 
 impl Command {
-    /// The pass and its call.
-    pub fn into_parts(self) -> (PassNo, Call)
-        ensures { result ≡ (self.pass, self.call) }
+    /// The pass and its instruction.
+    pub fn into_parts(self) -> (PassNo, Instruction)
+        ensures { result ≡ (self.pass, self.instruction) }
     {
-        let Command { pass, call } = self;
-        (pass, call)
-    }
-}
-
-impl Drop for Command {
-    fn drop(self) {
-        let Command { pass: _, call } = self;
-        call.let_go();
+        let Command { pass, instruction } = self;
+        (pass, instruction)
     }
 }

@@ -7,7 +7,7 @@ pub enum LineWhy {
     Pass,
     /// Its command is no word of any version.
     Word,
-    /// Only a later version has its command, an option or its first piece.
+    /// Only a later version has its command, an option, its first piece or its kind.
     Unbuilt,
     /// It misfits the form of its command.
     Form,

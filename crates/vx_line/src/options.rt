@@ -2,15 +2,16 @@
 ghost use Rattle.std.specs.Prelude.{◌≡◌, ◌<◌, ◌≤◌, [], ◌∷◌, length, map, option_map, IfSome};
 ghost use Rattle.vx_line.specs.Grammar as grammar;
 ghost use Rattle.vx_words.specs.Grammar.{begins_with};
-ghost use Rattle.vx_line.specs.Grammar.{texts_of, headers_option, codec_option, timeout_option, limit_option};
+ghost use Rattle.vx_line.specs.Grammar.{One, texts_of, headers_option, codec_option, timeout_option, limit_option, tell_option};
 ghost use Rattle.vx_line.specs.Reading as reading;
 ghost use Rattle.vx_words.specs.Reading.{Gives};
 ghost use Rattle.vx_line.specs.Reading.{option_at, options_of, one_of, choice_in, options_at};
-ghost use Rattle.vx_line.specs.Reasons as reasons;
+ghost use Rattle.vx_line.specs.Tables as tables;
+ghost use Rattle.vx_words.specs.Grammar.{AContext, AText, AWord};
 
 use std::alloc::Global;
 use vx_call::Options;
-use vx_data::{HeaderFault, Headers, Text};
+use vx_data::{ContextId, HeaderFault, Headers, Text};
 use vx_words::number::{number, small_number};
 use vx_words::word::{is_among, skip_spaces, split_word};
 use vx_words::{LineFault, MISFIT, token};
@@ -23,7 +24,7 @@ fn is_option(bytes: &[u8]) -> bool
 
 /// The option at the front of a tail, and the tail behind it.
 #[tactic(auto, unfolding(crate::specs::Reading::option_at))]
-fn next_option(tail: &[u8]) -> Option<(&[u8], &[u8])>
+pub fn next_option(tail: &[u8]) -> Option<(&[u8], &[u8])>
     ensures option { option_map (λ x. (x.0.now, x.1.now)) result ≡ option_at tail.now }
     ensures shorter { IfSome result (λ x. length x.1.now < length tail.now) }
 {
@@ -49,7 +50,7 @@ fn name_len(word: &[u8]) -> usize
 }
 
 /// The name of an option, and what follows it in the word.
-fn split_name(word: &[u8]) -> (&[u8], &[u8])
+pub fn split_name(word: &[u8]) -> (&[u8], &[u8])
     ensures name { result.0.now ≡ grammar.option_name word.now }
     ensures text { result.1.now ≡ grammar.option_text word.now }
 {
@@ -58,7 +59,7 @@ fn split_name(word: &[u8]) -> (&[u8], &[u8])
 
 /// Whether an option at the front of a tail has this name.
 pub fn has_option(name: &[u8], tail: &[u8]) -> bool
-    ensures { result ≡ reasons.has_option name.now tail.now }
+    ensures { result ≡ tables.has_option name.now tail.now }
 {
     let mut rest = tail;
     while let Some((option, behind)) = next_option(rest) {
@@ -80,7 +81,7 @@ fn is_known(word: &[u8], names: &[&str]) -> bool
 }
 
 /// The tail behind the options, where all of them have these names.
-fn behind_options<'a>(names: &[&str], tail: &'a [u8]) -> Result<&'a [u8], LineFault>
+pub fn behind_options<'a>(names: &[&str], tail: &'a [u8]) -> Result<&'a [u8], LineFault>
     ensures { Gives (λ x. x.now) result (reading.behind_options (map (λ name. name.now) names.now) tail.now) }
 {
     let mut rest = tail;
@@ -93,8 +94,19 @@ fn behind_options<'a>(names: &[&str], tail: &'a [u8]) -> Result<&'a [u8], LineFa
     Ok(rest)
 }
 
+/// The tail behind the options at its front.
+pub fn skip_options(tail: &[u8]) -> &[u8]
+    ensures { result.now ≡ (options_of tail.now).rest }
+{
+    let mut rest = tail;
+    while let Some((_, behind)) = next_option(rest) {
+        rest = behind;
+    }
+    rest
+}
+
 /// What follows this name in the one option that has it, if there is one.
-fn one<'a>(name: &[u8], tail: &'a [u8]) -> Result<Option<&'a [u8]>, LineFault>
+pub fn one<'a>(name: &[u8], tail: &'a [u8]) -> Result<Option<&'a [u8]>, LineFault>
     ensures { Gives (option_map (λ x. x.now)) result (one_of (texts_of name.now (options_of tail.now).words)) }
 {
     let mut found = None;
@@ -122,11 +134,21 @@ fn timeout(tail: &[u8]) -> Result<Option<u64>, LineFault>
     }
 }
 
-/// The name of the codec that an option chooses.
-fn codec(alloc: Global, tail: &[u8]) -> Result<Option<Text>, LineFault>
-    ensures { Gives (λ codec. codec) result (choice_in codec_option (options_of tail.now).words) }
+/// The context that an option of this name chooses.
+pub fn context_option(name: &[u8], tail: &[u8]) -> Result<Option<ContextId>, LineFault>
+    ensures { Gives (λ context. context) result (choice_in (One name.now AContext) (options_of tail.now).words) }
 {
-    match one(b"+codec:", tail)? {
+    match one(name, tail)? {
+        Some(text) => Ok(Some(token::context(text).ok_or(MISFIT)?)),
+        None => Ok(None),
+    }
+}
+
+/// The text that an option of this name chooses.
+pub fn text_option(alloc: Global, name: &[u8], tail: &[u8]) -> Result<Option<Text>, LineFault>
+    ensures { Gives (λ text. text) result (choice_in (One name.now AText) (options_of tail.now).words) }
+{
+    match one(name, tail)? {
         Some(text) => Ok(Some(token::text(alloc, text)?)),
         None => Ok(None),
     }
@@ -174,13 +196,22 @@ pub fn limit(tail: &[u8]) -> Result<(Option<u32>, &[u8]), LineFault>
     Ok((limit, rest))
 }
 
+/// The context that is told, if an option chooses one, and the tail behind it.
+pub fn tell(tail: &[u8]) -> Result<(Option<ContextId>, &[u8]), LineFault>
+    ensures { Gives (λ x. ((x.0, tt), x.1.now)) result (options_at (tell_option ∷ []) tail.now) }
+{
+    let rest = behind_options(&["+tell:"], tail)?;
+    let tell = context_option(b"+tell:", tail)?;
+    Ok((tell, rest))
+}
+
 /// The options of a message, and the tail behind them.
 pub fn message_options(alloc: Global, tail: &[u8]) -> Result<(Options, &[u8]), LineFault>
     ensures { Gives (λ x. ((x.0.headers, (x.0.codec, tt)), x.1.now)) result (options_at (headers_option ∷ codec_option ∷ []) tail.now) }
 {
     let rest = behind_options(&["+h:", "+codec:"], tail)?;
     let headers = headers(alloc, tail)?;
-    let codec = codec(alloc, tail)?;
+    let codec = text_option(alloc, b"+codec:", tail)?;
     Ok((Options { headers, codec }, rest))
 }
 
@@ -193,7 +224,7 @@ pub fn request_options(
 {
     let rest = behind_options(&["+h:", "+codec:", "+timeout:"], tail)?;
     let headers = headers(alloc, tail)?;
-    let codec = codec(alloc, tail)?;
+    let codec = text_option(alloc, b"+codec:", tail)?;
     let timeout = timeout(tail)?;
     Ok((Options { headers, codec }, timeout, rest))
 }

@@ -4,7 +4,9 @@
 
 mod first;
 mod given;
+mod leaver;
 mod requests;
 
 pub use given::GivenOut;
-pub use requests::{OpenRequest, Requests, is_lost};
+pub use leaver::Leaver;
+pub use requests::{OpenRequest, Requests, ends_with, fails_with};

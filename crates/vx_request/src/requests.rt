@@ -5,21 +5,25 @@ ghost use Rattle.vx_data.specs.declared.ids.MessageId.{MessageId};
 ghost use Rattle.vx_request.specs.declared.requests.OpenRequest.{OpenRequest};
 ghost use Rattle.vx_data.specs.Ids.{same_message};
 ghost use Rattle.vx_request.specs.Stores.{is_request, ended_at, is_lost};
+ghost use Rattle.vx_request.specs.Leaving.{is_left, ends_with, fails_with};
 
 use crate::first::keep_first;
 use crate::given::GivenOut;
+use crate::leaver::Leaver;
 use indexmap::IndexMap;
 use std::alloc::Global;
 use std::marker::Model;
-use vx_data::{ConsumerId, EntryNo, MessageId, NoMemory};
+use vx_data::{ConsumerId, ContextId, EntryNo, MessageId, NoMemory};
 use vx_message::Owner;
 
-/// A request that waits for its outcome: who asks, and the consumer that the request reached, if it reached one.
+/// A request that waits for its outcome: who asks, the consumer that the request reached, if it reached one, and the
+/// context whose handler gets the message, none where a connection does.
 #[derive(Clone, Copy)]
 pub struct OpenRequest {
     pub id: MessageId,
     pub asker: Owner,
     pub receiver: Option<ConsumerId>,
+    pub home: Option<ContextId>,
 }
 
 /// Requests that wait for their outcome, in the order of opening, and the entry at which each other one ended.
@@ -41,11 +45,38 @@ impl Model for Requests {
     ghost invariant = { λ a. length a.rows.items ≤ spare a.ended };
 }
 
-/// Whether a request reached the consumer, and was not given out to a handler.
-pub fn is_lost(row: &OpenRequest, receiver: ConsumerId, given: &GivenOut) -> bool
+// Whether a request reached the consumer, and was not given out to a handler.
+fn is_lost(row: &OpenRequest, receiver: ConsumerId, given: &GivenOut) -> bool
     ensures { result ≡ is_lost receiver given.now.given row.now }
 {
     row.receiver == Some(receiver) && given.given(row.id).is_none()
+}
+
+// Whether a handler of a context that leaves was to get the request's message, and was not given it.
+fn is_left(row: &OpenRequest, leaver: Leaver, given: &GivenOut) -> bool
+    ensures { result ≡ is_left leaver given.now.given row.now }
+{
+    leaver.has_home(row.home) && given.given(row.id).is_none()
+}
+
+/// Whether a request ends with what leaves: its asker leaves, or nobody can reply to it any more.
+pub fn ends_with(row: &OpenRequest, leaver: Leaver, given: &GivenOut) -> bool
+    ensures { result ≡ ends_with leaver given.now.given row.now }
+{
+    match leaver {
+        Leaver::Consumer(receiver) => is_lost(row, receiver, given),
+        _ => leaver.owns(row.asker) || is_left(row, leaver, given),
+    }
+}
+
+/// Whether a request ends with what leaves, and its asker stays.
+pub fn fails_with(row: &OpenRequest, leaver: Leaver, given: &GivenOut) -> bool
+    ensures { result ≡ fails_with leaver given.now.given row.now }
+{
+    match leaver {
+        Leaver::Consumer(receiver) => is_lost(row, receiver, given),
+        _ => !leaver.owns(row.asker) && is_left(row, leaver, given),
+    }
 }
 
 impl Requests {
@@ -69,36 +100,12 @@ impl Requests {
         Ok(())
     }
 
-    /// Opens a request that reached no consumer, as one for the asker of another request. It fails where memory runs out.
-    pub fn open(&mut self, id: MessageId, asker: Owner) -> Result<(), NoMemory>
-        ensures ok { OnOk result (self.new ≡ record self.old { waiting = self.old.waiting ++ record { id = id; asker = asker; receiver = None } ∷ []; room = self.new.room }) }
+    /// Opens a request: its receiver is none where it is for the asker of another request. It fails where memory runs out.
+    pub fn open(&mut self, row: OpenRequest) -> Result<(), NoMemory>
+        ensures ok { OnOk result (self.new ≡ record self.old { waiting = self.old.waiting ++ row ∷ []; room = self.new.room }) }
         ensures sure { 0 < self.old.room → IsOk result }
         ensures err { OnErr result (self.new ≡ record self.old { room = self.new.room }) }
     {
-        let row = OpenRequest {
-            id,
-            asker,
-            receiver: None,
-        };
-        add(&mut self.rows, &mut self.ended, row)
-    }
-
-    /// Opens a request that reached a consumer. It fails where memory runs out.
-    pub fn open_to(
-        &mut self,
-        id: MessageId,
-        asker: Owner,
-        receiver: ConsumerId,
-    ) -> Result<(), NoMemory>
-        ensures ok { OnOk result (self.new ≡ record self.old { waiting = self.old.waiting ++ record { id = id; asker = asker; receiver = Some receiver } ∷ []; room = self.new.room }) }
-        ensures sure { 0 < self.old.room → IsOk result }
-        ensures err { OnErr result (self.new ≡ record self.old { room = self.new.room }) }
-    {
-        let row = OpenRequest {
-            id,
-            asker,
-            receiver: Some(receiver),
-        };
         add(&mut self.rows, &mut self.ended, row)
     }
 
@@ -125,14 +132,13 @@ impl Requests {
         Ok(())
     }
 
-    /// Ends the requests that reached a consumer and were not given out: none of them will be. An entry of ending stays
-    /// once it is there. It takes no memory.
-    pub fn end_lost(&mut self, receiver: ConsumerId, given: &GivenOut, at: EntryNo)
-        ensures left { self.new.waiting ≡ filter (λ row. not (is_lost receiver given.now.given row)) self.old.waiting }
-        ensures ended { (m : MessageId) → ended_at m self.new.ended ≡ option_or (ended_at m self.old.ended) (option_map (λ _. at) (find (is_request m) (filter (is_lost receiver given.now.given) self.old.waiting))) }
+    /// Ends the requests that end with what leaves. An entry of ending stays once it is there. It takes no memory.
+    pub fn end_with(&mut self, leaver: Leaver, given: &GivenOut, at: EntryNo)
+        ensures left { self.new.waiting ≡ filter (λ row. not (ends_with leaver given.now.given row)) self.old.waiting }
+        ensures ended { (m : MessageId) → ended_at m self.new.ended ≡ option_or (ended_at m self.old.ended) (option_map (λ _. at) (find (is_request m) (filter (ends_with leaver given.now.given) self.old.waiting))) }
     {
-        end_each_lost(&self.rows, &mut self.ended, receiver, given, at);
-        leave_out_lost(&mut self.rows, receiver, given);
+        end_each(&self.rows, &mut self.ended, leaver, given, at);
+        leave_out_ended(&mut self.rows, leaver, given);
     }
 
     /// The entry at which a request ended, if it did.
@@ -213,27 +219,27 @@ fn leave_out(waiting: &mut Vec<OpenRequest>, id: MessageId)
     waiting.retain(|row| id != row.id);
 }
 
-// Leaves out the requests that reached a consumer and were not given out.
-fn leave_out_lost(waiting: &mut Vec<OpenRequest>, receiver: ConsumerId, given: &GivenOut)
-    ensures { waiting.new.items ≡ filter (λ row. not (is_lost receiver given.now.given row)) waiting.old.items }
+// Leaves out the requests that end with what leaves.
+fn leave_out_ended(waiting: &mut Vec<OpenRequest>, leaver: Leaver, given: &GivenOut)
+    ensures { waiting.new.items ≡ filter (λ row. not (ends_with leaver given.now.given row)) waiting.old.items }
 {
-    waiting.retain(|row| !is_lost(row, receiver, given));
+    waiting.retain(|row| !ends_with(row, leaver, given));
 }
 
-// Ends each request that reached a consumer and was not given out.
-fn end_each_lost(
+// Ends each request that ends with what leaves.
+fn end_each(
     waiting: &[OpenRequest],
     ended: &mut IndexMap<u64, EntryNo>,
-    receiver: ConsumerId,
+    leaver: Leaver,
     given: &GivenOut,
     at: EntryNo,
 )
-    requires { length (filter (is_lost receiver given.now.given) waiting.now) ≤ spare ended.old }
-    ensures ended { (m : MessageId) → ended_at m ended.new.entries ≡ option_or (ended_at m ended.old.entries) (option_map (λ _. at) (find (is_request m) (filter (is_lost receiver given.now.given) waiting.now))) }
-    ensures room { spare ended.old ≤ spare ended.new + length (filter (is_lost receiver given.now.given) waiting.now) }
+    requires { length (filter (ends_with leaver given.now.given) waiting.now) ≤ spare ended.old }
+    ensures ended { (m : MessageId) → ended_at m ended.new.entries ≡ option_or (ended_at m ended.old.entries) (option_map (λ _. at) (find (is_request m) (filter (ends_with leaver given.now.given) waiting.now))) }
+    ensures room { spare ended.old ≤ spare ended.new + length (filter (ends_with leaver given.now.given) waiting.now) }
 {
     for row in waiting {
-        if is_lost(row, receiver, given) {
+        if ends_with(row, leaver, given) {
             keep_first(ended, row.id.0.0, at);
         }
     }

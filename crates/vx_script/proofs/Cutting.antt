@@ -10,7 +10,8 @@ use Rattle.std.proofs.lemmas.List.Splits.{slice_split_first, slice_split_none}
 use Rattle.vx_line.specs.declared.command.Command.{Command}
 use Rattle.vx_words.specs.declared.fault.LineFault.{LineFault}
 use Rattle.vx_words.specs.declared.fault.LineFault.TheVariants as faults
-use Rattle.vx_line.specs.Reading.{said_at}
+use Rattle.vx_line.specs.declared.scope.Scope.TheVariants.{Made}
+use Rattle.vx_line.specs.Lines.{said_at}
 use Rattle.vx_words.specs.Reading.{Fails}
 use Rattle.vx_script.specs.Lines.{Bad, passes_after, with_front, commands_from, commands_of, Adds, numbered, ScriptFails}
 
@@ -68,7 +69,7 @@ front_twice xs ys (Err e) = refl
 
 -- one line, the rest of which is told as before
 pub step : (commands new : List Command) (passes after n : ℕ) (rest line back : List ℕ) (all : Result (List Command) Bad) →
-    with_front commands (commands_from passes (n + 1) (lines rest)) ≡ all → lines rest ≡ line ∷ lines back → Adds (said_at passes line) commands new passes after →
+    with_front commands (commands_from passes (n + 1) (lines rest)) ≡ all → lines rest ≡ line ∷ lines back → Adds (said_at Made passes line) commands new passes after →
     with_front new (commands_from after (n + 1 + 1) (lines back)) ≡ all
 unfolding commands_from
 step commands new passes after n rest line back all h cut a =
@@ -78,7 +79,7 @@ step commands new passes after n rest line back all h cut a =
 
 -- the first line in no form
 pub step_bad : (commands : List Command) (passes n : ℕ) (rest line back : List ℕ) (all : Result (List Command) Bad) (e : LineFault) →
-    with_front commands (commands_from passes (n + 1) (lines rest)) ≡ all → lines rest ≡ line ∷ lines back → Fails e (said_at passes line) → ScriptFails (numbered (n + 1) passes line e) all
+    with_front commands (commands_from passes (n + 1) (lines rest)) ≡ all → lines rest ≡ line ∷ lines back → Fails e (said_at Made passes line) → ScriptFails (numbered (n + 1) passes line e) all
 unfolding commands_from
 step_bad commands passes n rest line back all faults.NoMemory h cut f = tt
 step_bad commands passes n rest line back all faults.Misfit h cut f = sym (rw f at (rw cut at h))

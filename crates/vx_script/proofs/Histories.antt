@@ -5,6 +5,7 @@ use Rattle.std.proofs.KnownBytes.{Appends-nil, Appends-trans}
 use Rattle.std.proofs.lemmas.List.{append-nil}
 use Rattle.vx_data.specs.declared.ids.PassNo.{PassNo}
 use Rattle.vx_call.specs.declared.call.Call.{Call}
+use Rattle.vx_line.specs.Made.{first_call}
 use Rattle.vx_call.specs.declared.reply.Reply.{Reply}
 use Rattle.vx_call.specs.declared.history.Traced.{Traced}
 use Rattle.vx_call.specs.Effects.{marked}
@@ -54,7 +55,7 @@ text_extended all h pass call reply false p =
 pub text_begins : (h : List Traced) (cs : List Command) → Begins (text (history_from h cs)) (text h)
 text_begins h [] = begins_same (text h)
 text_begins h (c ∷ cs) =
-    text_extended (text (history_from h (c ∷ cs))) h c.pass c.call (answer h c.pass c.call) (is_spent h) (text_begins (played h c.pass c.call) cs)
+    text_extended (text (history_from h (c ∷ cs))) h c.pass (first_call c.instruction) (answer h c.pass (first_call c.instruction)) (is_spent h) (text_begins (played h c.pass (first_call c.instruction)) cs)
 
 -- below its limit a history goes on
 pub played_more : (h : List Traced) (pass : PassNo) (call : Call) → length h < 2 ^ 48 → played h pass call ≡ h ++ next h pass call ∷ []
@@ -69,32 +70,32 @@ begins_inner all a line front p q =
 
 -- A front of one more line is written: a front of the whole text.
 pub cut_off : (Stands : List Traced → Type 0) (a b c : Option (List ℕ)) (at : ℕ) (command : Command) (rest all : List Command) (g : Goes Stands a b at (command ∷ rest) all) → at < 2 ^ 48 →
-    AppendsFront b c (reply_line (record { 0 = at }) (answer g.history command.pass command.call)) → AppendsFront a c (text (history_of all))
+    AppendsFront b c (reply_line (record { 0 = at }) (answer g.history command.pass (first_call command.instruction))) → AppendsFront a c (text (history_of all))
 cut_off Stands a b c at command rest all g few f =
     let h = g.history in
     let whole = text (history_of all) in
-    let line = reply_line (record { 0 = length h }) (answer h command.pass command.call) in
+    let line = reply_line (record { 0 = length h }) (answer h command.pass (first_call command.instruction)) in
     let small : length h < 2 ^ 48 = omega (arith, g.count) in
     let one : Begins (text (history_from h (command ∷ rest))) (text h ++ line) =
-    subst (Begins (text (history_from h (command ∷ rest)))) (played_text h command.pass command.call small) (text_begins (played h command.pass command.call) rest) in
+    subst (Begins (text (history_from h (command ∷ rest)))) (played_text h command.pass (first_call command.instruction) small) (text_begins (played h command.pass (first_call command.instruction)) rest) in
     let p : Begins whole (text h ++ line) = subst (λ (v : List Traced). Begins (text v) (text h ++ line)) g.goes_on one in
-    let q : Begins line f.0 = subst (λ (v : ℕ). Begins (reply_line (record { 0 = v }) (answer h command.pass command.call)) f.0) g.count f.1 in
+    let q : Begins line f.0 = subst (λ (v : ℕ). Begins (reply_line (record { 0 = v }) (answer h command.pass (first_call command.instruction))) f.0) g.count f.1 in
     (text h ++ f.0, begins_inner whole (text h) line f.0 p q, Appends-trans a b c (text h) f.0 g.written f.2)
 
 -- One more line is written.
 pub one_more : (Stands Stands' : List Traced → Type 0) (a b c : Option (List ℕ)) (at : ℕ) (command : Command) (rest all : List Command) (g : Goes Stands a b at (command ∷ rest) all) → at < 2 ^ 48 →
-    Stands' (played g.history command.pass command.call) → Appends b c (reply_line (record { 0 = at }) (answer g.history command.pass command.call)) → Goes Stands' a c (at + 1) rest all
+    Stands' (played g.history command.pass (first_call command.instruction)) → Appends b c (reply_line (record { 0 = at }) (answer g.history command.pass (first_call command.instruction))) → Goes Stands' a c (at + 1) rest all
 one_more Stands Stands' a b c at command rest all g few stands f =
     let h = g.history in
     let small : length h < 2 ^ 48 = omega (arith, g.count) in
-    let line : Appends b c (reply_line (record { 0 = length h }) (answer h command.pass command.call)) = subst (λ (v : ℕ). Appends b c (reply_line (record { 0 = v }) (answer h command.pass command.call))) g.count f in
+    let line : Appends b c (reply_line (record { 0 = length h }) (answer h command.pass (first_call command.instruction))) = subst (λ (v : ℕ). Appends b c (reply_line (record { 0 = v }) (answer h command.pass (first_call command.instruction)))) g.count f in
     record {
-      history = played h command.pass command.call;
+      history = played h command.pass (first_call command.instruction);
       stands = stands;
       goes_on = g.goes_on;
-      written = rw (played_text h command.pass command.call small) (Appends-trans a b c (text h) (reply_line (record { 0 = length h }) (answer h command.pass command.call)) g.written line);
-      there = subst (λ (v : ℕ). AreThere v rest) (sym (ap passes (played_more h command.pass command.call small) ∙ passes_more h command.pass command.call small)) g.there.1;
-      count = omega (arith, g.count, ap length (played_more h command.pass command.call small), length-append h (next h command.pass command.call ∷ []));
+      written = rw (played_text h command.pass (first_call command.instruction) small) (Appends-trans a b c (text h) (reply_line (record { 0 = length h }) (answer h command.pass (first_call command.instruction))) g.written line);
+      there = subst (λ (v : ℕ). AreThere v rest) (sym (ap passes (played_more h command.pass (first_call command.instruction) small) ∙ passes_more h command.pass (first_call command.instruction) small)) g.there.1;
+      count = omega (arith, g.count, ap length (played_more h command.pass (first_call command.instruction) small), length-append h (next h command.pass (first_call command.instruction) ∷ []));
     }
 
 -- Nothing is left: all is written.

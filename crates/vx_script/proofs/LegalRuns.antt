@@ -14,31 +14,34 @@ use Rattle.vx_call.proofs.Legal.{legal_none, legal_more}
 use Rattle.vx_hub.proofs.States.{no_states}
 use Rattle.vx_line.specs.declared.command.Command.{Command}
 use Rattle.vx_script.specs.declared.limit.TheConstants.{LIMIT}
-use Rattle.vx_line.specs.Reading.{said_at}
+use Rattle.vx_line.specs.declared.scope.Scope.TheVariants.{Made}
+use Rattle.vx_line.specs.Lines.{said_at}
+use Rattle.vx_line.specs.Made.{first_call}
+use Rattle.vx_line.proofs.Built.{made_built}
 use Rattle.vx_line.specs.Reasons.{reason}
-use Rattle.vx_script.specs.Lines.{Bad, passes_after, with_front, with_line, commands_from, commands_of, AreThere, AreBuiltCalls}
+use Rattle.vx_script.specs.Lines.{Bad, passes_after, with_front, with_line, commands_from, commands_of, AreThere, AreMade}
 use Rattle.vx_script.specs.Playing.{history_from, history_of}
-use Rattle.vx_script.proofs.BuiltCalls.{script_built}
+use Rattle.vx_script.proofs.MadeLines.{script_made}
 use Rattle.vx_script.proofs.Counts.{next, passes_more, passes_none}
 use Rattle.vx_script.proofs.Histories.{played_more}
 use Rattle.vx_script.proofs.Theres.{script_there}
 
-played_legal : (h : List Traced) (c : Command) → IsLegal h → AreBuilt h → is_built c.call ≡ true → length h < 2 ^ 48 → c.pass.0 < passes h → IsLegal (h ++ next h c.pass c.call ∷ [])
+played_legal : (h : List Traced) (c : Command) → IsLegal h → AreBuilt h → is_built (first_call c.instruction) ≡ true → length h < 2 ^ 48 → c.pass.0 < passes h → IsLegal (h ++ next h c.pass (first_call c.instruction) ∷ [])
 played_legal h c legal built is few known =
-    legal_more h (next h c.pass c.call) legal (record { known = known; answered = refl; room = few; stated = sym (no_states h c.pass c.call built is); mark = refl })
+    legal_more h (next h c.pass (first_call c.instruction)) legal (record { known = known; answered = refl; room = few; stated = sym (no_states h c.pass (first_call c.instruction) built is); mark = refl })
 
-played_built : (h : List Traced) (c : Command) → AreBuilt h → is_built c.call ≡ true → AreBuilt (h ++ next h c.pass c.call ∷ [])
-played_built h c built is = built_more h (next h c.pass c.call) built (record { call = is; mark = no_mark_made h c.pass c.call (answer h c.pass c.call) built is })
+played_built : (h : List Traced) (c : Command) → AreBuilt h → is_built (first_call c.instruction) ≡ true → AreBuilt (h ++ next h c.pass (first_call c.instruction) ∷ [])
+played_built h c built is = built_more h (next h c.pass (first_call c.instruction)) built (record { call = is; mark = no_mark_made h c.pass (first_call c.instruction) (answer h c.pass (first_call c.instruction)) built is })
 
-legal_after : (h : List Traced) (cs : List Command) → IsLegal h → AreBuilt h → length h + length cs ≤ 2 ^ 48 → AreThere (passes h) cs → AreBuiltCalls cs → IsLegal (history_from h cs)
+legal_after : (h : List Traced) (cs : List Command) → IsLegal h → AreBuilt h → length h + length cs ≤ 2 ^ 48 → AreThere (passes h) cs → AreMade cs → IsLegal (history_from h cs)
 legal_after h [] legal built few there are = legal
 legal_after h (c ∷ cs) legal built few there are =
     let small : length h < 2 ^ 48 = omega arith in
-    let longer = h ++ next h c.pass c.call ∷ [] in
-    let more : AreThere (passes longer) cs = subst (λ (v : ℕ). AreThere v cs) (sym (passes_more h c.pass c.call small)) there.1 in
+    let longer = h ++ next h c.pass (first_call c.instruction) ∷ [] in
+    let more : AreThere (passes longer) cs = subst (λ (v : ℕ). AreThere v cs) (sym (passes_more h c.pass (first_call c.instruction) small)) there.1 in
     let rest : IsLegal (history_from longer cs) =
-    legal_after longer cs (played_legal h c legal built are.0 small there.0) (played_built h c built are.0) (omega (arith, length-append h (next h c.pass c.call ∷ []))) more are.1 in
-    subst (λ (v : List Traced). IsLegal (history_from v cs)) (sym (played_more h c.pass c.call small)) rest
+    legal_after longer cs (played_legal h c legal built (made_built c.instruction are.0) small there.0) (played_built h c built (made_built c.instruction are.0)) (omega (arith, length-append h (next h c.pass (first_call c.instruction) ∷ []))) more are.1 in
+    subst (λ (v : List Traced). IsLegal (history_from v cs)) (sym (played_more h c.pass (first_call c.instruction) small)) rest
 
 one_at_most : (said : Option Command) → length (option_to_list said) ≤ 1
 one_at_most None = omega arith
@@ -60,7 +63,7 @@ commands_few : (passes k : ℕ) (ls : List (List ℕ)) (commands : List Command)
 unfolding commands_from
 commands_few passes k [] commands h = let e : [] ≡ commands = cc in omega (arith, ap length (sym e))
 commands_few passes k (line ∷ lines) commands h =
-    let n = line_few (said_at passes line) (k, reason passes line) (λ said. commands_from (passes_after passes said) (k + 1) lines) commands (length lines) h (λ said cs e. commands_few (passes_after passes said) (k + 1) lines cs e) in
+    let n = line_few (said_at Made passes line) (k, reason Made passes line) (λ said. commands_from (passes_after passes said) (k + 1) lines) commands (length lines) h (λ said cs e. commands_few (passes_after passes said) (k + 1) lines cs e) in
     omega (arith, n)
 
 parts_few : (ps : List (List ℕ)) → length (lines_of_parts ps) ≤ length ps
@@ -79,4 +82,4 @@ pub legal_run : (bytes : List ℕ) (commands : List Command) → length bytes �
 unfolding commands_of
 legal_run bytes commands few made =
     legal_after [] commands legal_none tt (omega (arith, commands_few 1 1 (lines bytes) commands made, lines_few bytes)) (subst (λ (v : ℕ). AreThere v commands) (sym passes_none) (script_there bytes commands made))
-    (script_built bytes commands made)
+    (script_made bytes commands made)

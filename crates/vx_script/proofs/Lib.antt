@@ -3,7 +3,7 @@ pub mod Cutting
 pub mod Counts
 pub mod Histories
 pub mod Theres
-pub mod BuiltCalls
+pub mod MadeLines
 pub mod LegalRuns
 pub mod Settled
 pub mod Arguments

@@ -1,4 +1,5 @@
 pub mod Lines
 pub mod Statuses
 pub mod Playing
+pub mod Working
 pub mod Outcome

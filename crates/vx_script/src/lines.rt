@@ -4,13 +4,15 @@ ghost use Rattle.std.specs.List.{position_or_len};
 ghost use Rattle.std.specs.Str.Lines.{lines, strip_carriage_return};
 ghost use Rattle.vx_script.specs.Lines as script;
 ghost use Rattle.vx_script.specs.Lines.{commands_of, ScriptFails, Adds};
-ghost use Rattle.vx_line.specs.Reading.{said_at};
+ghost use Rattle.vx_line.specs.declared.scope.Scope.TheVariants.{Made};
+ghost use Rattle.vx_line.specs.Lines.{said_at};
+ghost use Rattle.vx_line.specs.Made.{first_call};
 ghost use Rattle.vx_words.specs.Reading.{Fails};
 
 use crate::fault::ScriptFault;
 use std::alloc::Global;
 use vx_call::Call;
-use vx_line::{Command, read_line, reason};
+use vx_line::{Command, Instruction, Scope, read_line, reason};
 use vx_words::LineFault;
 
 fn newline_at(bytes: &[u8]) -> usize
@@ -60,7 +62,22 @@ fn passes_with(passes: u64, call: &Call) -> u64
     }
 }
 
-/// Adds the call of a line, if it makes one, and gives how many passes are there then.
+/// How many passes are there after an instruction.
+fn passes_after(passes: u64, instruction: &Instruction) -> u64
+    requires { passes < u64.MAX }
+    ensures value { result ≡ script.passes_with passes (first_call instruction.now) }
+    ensures few { result ≤ passes + 1 }
+{
+    match instruction {
+        Instruction::Call(call) => passes_with(passes, call),
+        Instruction::Deploy { .. } => passes,
+        Instruction::Take(_) => passes,
+        Instruction::Finish(_) => passes,
+        Instruction::Work(_) => passes,
+    }
+}
+
+/// Adds the instruction of a line, if it has one, and gives how many passes are there then.
 fn read_into(
     alloc: Global,
     passes: u64,
@@ -68,15 +85,15 @@ fn read_into(
     commands: &mut Vec<Command>,
 ) -> Result<u64, LineFault>
     requires { passes < u64.MAX }
-    ensures ok { IfOk result (λ after. Adds (said_at passes line.now) commands.old.items commands.new.items passes after) }
+    ensures ok { IfOk result (λ after. Adds (said_at Made passes line.now) commands.old.items commands.new.items passes after) }
     ensures few { IfOk result (λ after. after ≤ passes + 1) }
     ensures one { vec_len commands.new ≤ vec_len commands.old + 1 }
-    ensures err { IfErr result (λ fault. Fails fault (said_at passes line.now)) }
+    ensures err { IfErr result (λ fault. Fails fault (said_at Made passes line.now)) }
 {
-    let Some(command) = read_line(alloc, passes, line)? else {
+    let Some(command) = read_line(alloc, Scope::Made, passes, line)? else {
         return Ok(passes);
     };
-    let after = passes_with(passes, &command.call);
+    let after = passes_after(passes, &command.instruction);
     commands.push(command)?;
     Ok(after)
 }
@@ -87,7 +104,7 @@ fn bad_line(number: u64, passes: u64, line: &[u8], fault: LineFault) -> ScriptFa
 {
     match fault {
         LineFault::NoMemory => ScriptFault::NoMemory,
-        LineFault::Misfit => ScriptFault::BadLine(number, reason(passes, line)),
+        LineFault::Misfit => ScriptFault::BadLine(number, reason(Scope::Made, passes, line)),
     }
 }
 

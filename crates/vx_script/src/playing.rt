@@ -10,7 +10,8 @@ ghost use Rattle.vx_call.specs.Runs.{played};
 ghost use Rattle.vx_hub.specs.Stands.{StandsFor, Meets, Keeps};
 ghost use Rattle.vx_io.specs.Faults.{Rose};
 ghost use Rattle.vx_io.specs.Writing.{AppendsFront};
-ghost use Rattle.vx_script.specs.Lines.{AreThere, AreBuiltCalls};
+ghost use Rattle.vx_line.specs.Made.{first_call, is_made};
+ghost use Rattle.vx_script.specs.Lines.{AreThere, AreMade};
 ghost use Rattle.vx_script.specs.Playing.{history_of};
 ghost use Rattle.vx_reply_text.specs.Replies.{reply_line, text};
 
@@ -20,7 +21,7 @@ use vx_call::{Call, End, Reply};
 use vx_data::{EntryNo, NoMemory, PassNo};
 use vx_hub::Hub;
 use vx_io::{Sink, SinkFault, write_all};
-use vx_line::Command;
+use vx_line::{Command, Instruction};
 use vx_reply_text::write_reply;
 
 fn finish(hub: &mut Hub, pass: PassNo, end: End) -> Reply
@@ -45,7 +46,7 @@ fn step(hub: &mut Hub, pass: PassNo, call: Call) -> Result<Reply, NoMemory>
 }
 
 /// Makes a call of a pass, and gives the reply.
-fn make(hub: &mut Hub, pass: PassNo, call: Call) -> Result<Reply, NoMemory>
+fn make_call(hub: &mut Hub, pass: PassNo, call: Call) -> Result<Reply, NoMemory>
     requires { IsTrue (is_built call) }
     ensures reply { IfOk result (λ reply. Meets hub.old hub.new pass call reply) }
     ensures err { OnErr result (Keeps hub.old hub.new) }
@@ -60,6 +61,15 @@ fn make(hub: &mut Hub, pass: PassNo, call: Call) -> Result<Reply, NoMemory>
     };
     call.let_go();
     Ok(reply)
+}
+
+/// Has an instruction of a pass done, which is one call so far, and gives the reply.
+fn make(hub: &mut Hub, pass: PassNo, instruction: Instruction) -> Result<Reply, NoMemory>
+    requires { IsTrue (is_made instruction) }
+    ensures reply { IfOk result (λ reply. Meets hub.old hub.new pass (first_call instruction) reply) }
+    ensures err { OnErr result (Keeps hub.old hub.new) }
+{
+    make_call(hub, pass, instruction.into_first_call())
 }
 
 /// Writes the line of a reply. The sink has all of it after an `Ok`, and a front of it else.
@@ -90,15 +100,15 @@ fn make_one<K: Sink>(
     command: Command,
     sink: &mut K,
 ) -> Result<(), SinkFault>
-    requires { IsTrue (is_built command.call) }
-    ensures goes { OnOk result ((history : List Traced) → StandsFor hub.old history → command.pass.0 < passes history → StandsFor hub.new (played history command.pass command.call)) }
-    ensures written { OnOk result ((history : List Traced) → StandsFor hub.old history → command.pass.0 < passes history → Appends (K.held sink.old) (K.held sink.new) (reply_line at (answer history command.pass command.call))) }
-    ensures err { OnErr result ((history : List Traced) → StandsFor hub.old history → command.pass.0 < passes history → AppendsFront (K.held sink.old) (K.held sink.new) (reply_line at (answer history command.pass command.call))) }
+    requires { IsTrue (is_made command.instruction) }
+    ensures goes { OnOk result ((history : List Traced) → StandsFor hub.old history → command.pass.0 < passes history → StandsFor hub.new (played history command.pass (first_call command.instruction))) }
+    ensures written { OnOk result ((history : List Traced) → StandsFor hub.old history → command.pass.0 < passes history → Appends (K.held sink.old) (K.held sink.new) (reply_line at (answer history command.pass (first_call command.instruction)))) }
+    ensures err { OnErr result ((history : List Traced) → StandsFor hub.old history → command.pass.0 < passes history → AppendsFront (K.held sink.old) (K.held sink.new) (reply_line at (answer history command.pass (first_call command.instruction)))) }
     ensures later { K.faults sink.old ≤ K.faults sink.new }
     ensures cause { IsErrOf result SinkFault.Failed → Rose (K.faults sink.old) (K.faults sink.new) }
 {
-    let (pass, call) = command.into_parts();
-    match make(hub, pass, call) {
+    let (pass, instruction) = command.into_parts();
+    match make(hub, pass, instruction) {
         Ok(reply) => {
             let written = write_one(alloc, at, &reply, sink);
             reply.let_go();
@@ -118,7 +128,7 @@ fn make_all<K: Sink>(
     requires new { StandsFor hub.old [] }
     requires few { length commands.items ≤ LIMIT }
     requires there { AreThere 1 commands.items }
-    requires built { AreBuiltCalls commands.items }
+    requires built { AreMade commands.items }
     ensures ok { OnOk result (Appends (K.held sink.old) (K.held sink.new) (text (history_of commands.items))) }
     ensures err { OnErr result (AppendsFront (K.held sink.old) (K.held sink.new) (text (history_of commands.items))) }
     ensures later { K.faults sink.old ≤ K.faults sink.new }
@@ -136,7 +146,7 @@ fn make_all<K: Sink>(
 pub fn play<K: Sink>(alloc: Global, commands: Vec<Command>, sink: &mut K) -> Result<(), SinkFault>
     requires few { length commands.items ≤ LIMIT }
     requires there { AreThere 1 commands.items }
-    requires built { AreBuiltCalls commands.items }
+    requires built { AreMade commands.items }
     ensures ok { OnOk result (Appends (K.held sink.old) (K.held sink.new) (text (history_of commands.items))) }
     ensures err { OnErr result (AppendsFront (K.held sink.old) (K.held sink.new) (text (history_of commands.items))) }
     ensures later { K.faults sink.old ≤ K.faults sink.new }

@@ -9,6 +9,8 @@ mod flows;
 #[cfg(test)]
 mod forms;
 #[cfg(test)]
+mod lives;
+#[cfg(test)]
 mod outs;
 #[cfg(test)]
 mod requests;

@@ -1,7 +1,7 @@
 use std::test::Fail;
 use vx_data::{ConsumerId, EntryNo, MessageId, NoMemory, PassNo};
 use vx_message::{Given, Owner};
-use vx_request::{GivenOut, Requests};
+use vx_request::{GivenOut, Leaver, OpenRequest, Requests};
 
 const ASKER: Owner = Owner::Pass(PassNo(0));
 
@@ -11,10 +11,20 @@ const FIRST: MessageId = MessageId(EntryNo(1));
 
 const SECOND: MessageId = MessageId(EntryNo(2));
 
+// A request that waits.
+fn asked(id: MessageId, receiver: Option<ConsumerId>) -> OpenRequest {
+    OpenRequest {
+        id,
+        asker: ASKER,
+        receiver,
+        home: None,
+    }
+}
+
 // Opens one request, ends another that nobody heard, and says whether the first ends once.
 fn end_once(requests: &mut Requests) -> Result<bool, NoMemory> {
     requests.reserve()?;
-    requests.open(FIRST, ASKER)?;
+    requests.open(asked(FIRST, None))?;
     requests.end_unheard(SECOND, EntryNo(2))?;
     Ok(
         requests.asker(FIRST) == Some(ASKER)
@@ -27,15 +37,15 @@ fn end_once(requests: &mut Requests) -> Result<bool, NoMemory> {
 
 // Opens two requests, of which the first is given out, and says whether the other alone is lost.
 fn lose_the_other(requests: &mut Requests, given: &mut GivenOut) -> Result<bool, NoMemory> {
-    requests.open_to(FIRST, ASKER, RECEIVER)?;
-    requests.open_to(SECOND, ASKER, RECEIVER)?;
+    requests.open(asked(FIRST, Some(RECEIVER)))?;
+    requests.open(asked(SECOND, Some(RECEIVER)))?;
     given.reserve(1)?;
     given.give(Given {
         id: FIRST,
         receiver: None,
         request: true,
     });
-    requests.end_lost(RECEIVER, given, EntryNo(5));
+    requests.end_with(Leaver::Consumer(RECEIVER), given, EntryNo(5));
     Ok(
         given.given(FIRST).is_some()
             && requests.settled(FIRST).is_none()

@@ -61,6 +61,7 @@ pub fn note_below(
     requires kept { AreKept nodes.now asked.old.entries }
     requires there { is_known top asked.old.entries ≡ true }
     ensures asked { (d : DeploymentId) → asked_at d asked.new.entries ≡ option_or (asked_at d asked.old.entries) (if is_one_of (below nodes.now top) d then Some at else None) }
+    ensures known { (d : DeploymentId) → is_known d asked.new.entries ≡ is_known d asked.old.entries }
     ensures kept { AreKept nodes.now asked.new.entries }
 {
     note(asked, top, at);

@@ -8,5 +8,6 @@ mod contexts;
 mod node;
 mod tree;
 
+pub use contexts::{append, leave_out};
 pub use node::Node;
 pub use tree::{Tree, gone_ones_stay_gone, next_stops_come_in_order};

@@ -1,4 +1,4 @@
-ghost use Rattle.std.specs.Prelude.{◌≡◌, ℕ, ◌<◌, ◌≤◌, ◌++◌, if◌then◌else◌, not, List, [], ◌∷◌, find, filter, slice_get, is_some, true, Option, None, Some, All, IfSome, OnOk, OnErr};
+ghost use Rattle.std.specs.Prelude.{◌≡◌, ℕ, ◌<◌, ◌≤◌, ◌++◌, ◌||◌, if◌then◌else◌, not, List, [], ◌∷◌, find, filter, slice_get, is_some, true, Option, None, Some, All, IfSome, OnOk, OnErr};
 ghost use Rattle.std.specs.Option.{option_or, option_map};
 ghost use Rattle.std.specs.List.{list_any};
 ghost use Rattle.vx_data.specs.declared.ids.ContextId.{ContextId};
@@ -6,7 +6,7 @@ ghost use Rattle.vx_data.specs.declared.ids.DeploymentId.{DeploymentId};
 ghost use Rattle.vx_data.specs.declared.ids.EntryNo.{EntryNo};
 ghost use Rattle.vx_data.specs.Ids.{same_context, same_deployment};
 ghost use Rattle.vx_tree.specs.declared.node.Node.{Node};
-ghost use Rattle.vx_tree.specs.Nodes.{TreeStore, AreApart, contexts_of, asked_at, is_there, is_instance_of, is_one_of, below, may_be_below, there_of, may_stop, without, without_any};
+ghost use Rattle.vx_tree.specs.Nodes.{TreeStore, AreApart, contexts_of, asked_at, is_known, is_there, is_instance_of, is_one_of, below, may_be_below, there_of, may_stop, without, without_any};
 
 use crate::askings::{asked_at, make_known, note_below};
 use crate::contexts::{append, has_context, has_instance, leave_out};
@@ -64,6 +64,7 @@ impl Tree {
         requires above { may_be_below parent self.old.there self.old.asked ≡ true }
         ensures there { OnOk result (self.new.there ≡ self.old.there ++ record { id = id; parent = parent } ∷ []) }
         ensures asked { OnOk result ((d : DeploymentId) → asked_at d self.new.asked ≡ (if same_deployment d id then None else asked_at d self.old.asked)) }
+        ensures known { OnOk result ((d : DeploymentId) → is_known d self.new.asked ≡ (same_deployment d id || is_known d self.old.asked)) }
         ensures live { OnOk result (self.new.live ≡ self.old.live ++ contexts_of id 0 count) }
         ensures starting { OnOk result (self.new.starting ≡ self.old.starting ++ contexts_of id 0 count) }
         ensures to_stop { OnOk result (self.new.to_stop ≡ self.old.to_stop ++ contexts_of id 0 count) }
@@ -81,11 +82,12 @@ impl Tree {
         Ok(())
     }
 
-    /// Asks a deployment that is there to end, at an entry, and all below it. Those that were asked before keep their
-    /// entry. It takes no memory.
+    /// Asks a deployment to end, at an entry, and all below it. Those that were asked before keep their entry. Of one that
+    /// is gone all below it were asked, so nothing changes. It takes no memory.
     pub fn ask(&mut self, id: DeploymentId, at: EntryNo)
-        requires { is_there id self.old.there ≡ true }
+        requires { is_known id self.old.asked ≡ true }
         ensures asked { (d : DeploymentId) → asked_at d self.new.asked ≡ option_or (asked_at d self.old.asked) (if is_one_of (below self.old.there id) d then Some at else None) }
+        ensures known { (d : DeploymentId) → is_known d self.new.asked ≡ is_known d self.old.asked }
         ensures rest { self.new ≡ record self.old { there = there_of self.new.asked self.old.live self.old.there; asked = self.new.asked } }
     {
         note_below(&self.nodes, &mut self.asked, id, at);

@@ -1,1 +1,5 @@
 pub mod Answers
+pub mod Calls
+pub mod Begun
+pub mod NoOnces
+pub mod Played

@@ -1,5 +1,5 @@
 //! What makes verticles.
-ghost use Rattle.std.specs.Prelude.{ℕ, ℤ, List, ◌≡◌, MatchResult};
+ghost use Rattle.std.specs.Prelude.{◌≡◌, ℕ, ℤ, List, IfOk, IfErr, IsOk};
 ghost use Rattle.vx_message.specs.declared.kind.KindSpec.{KindSpec};
 ghost use Rattle.vx_verticle.specs.declared.kinds.KindFault.TheVariants as faults;
 
@@ -26,5 +26,8 @@ pub trait Kinds {
 
     /// Makes a verticle. `NoKind` comes exactly where no kind of that name is known.
     fn make(&mut self, spec: &KindSpec) -> Result<Self::V, KindFault>
-        ensures made { MatchResult result (λ verticle. knows spec.now.kind × makes spec.now (Self.V.state verticle)) (λ why. (why ≡ faults.NoKind → ¬ knows spec.now.kind) × (why ≡ faults.NoMemory → knows spec.now.kind)) };
+        ensures made { IfOk result (λ verticle. makes spec.now (Self.V.state verticle)) }
+        ensures known { IsOk result → knows spec.now.kind }
+        ensures unknown { IfErr result (λ why. why ≡ faults.NoKind → ¬ knows spec.now.kind) }
+        ensures without_memory { IfErr result (λ why. why ≡ faults.NoMemory → knows spec.now.kind) };
 }

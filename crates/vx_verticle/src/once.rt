@@ -5,7 +5,7 @@ ghost use Rattle.vx_verticle.specs.declared.plain.PlainAct.{PlainAct};
 ghost use Rattle.vx_call.specs.declared.call.End.{End};
 ghost use Rattle.vx_call.specs.declared.call.End.TheVariants as ends;
 
-use crate::plain::PlainActs;
+use crate::plain_acts::PlainActs;
 use std::marker::Model;
 use vx_call::End;
 use vx_data::{NoMemory, Numbers};

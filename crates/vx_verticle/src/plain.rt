@@ -1,11 +1,11 @@
 //! The calls that a handler has made for it.
-ghost use Rattle.std.specs.Prelude.{◌≡◌, ◌↔◌, ◌≤◌, ◌∷◌, ◌++◌, [], length, OnOk, OnErr, IfErr, IsErrAnd};
-ghost use Rattle.vx_verticle.specs.declared.acts.ActFault.TheVariants.{TooMany};
+ghost use Rattle.std.specs.Prelude.{◌≡◌, IsTrue};
+ghost use Rattle.vx_verticle.specs.Calls.{call_of, is_message_act, is_bus_act, is_life_act};
 
-use crate::acts::{ActFault, MAX_ACTS};
-use std::alloc::Global;
-use std::marker::Model;
-use vx_data::{Body, ConsumerId, DeploymentId, List, MessageId, PromiseId, RuleId, Text, TimerId};
+use vx_call::Call;
+use vx_data::{
+    Body, ConsumerId, ContextId, DeploymentId, List, MessageId, PromiseId, RuleId, Text, TimerId,
+};
 use vx_message::{CodecForm, Compose, Condition, DoneResult, Options, Side, Verdict};
 
 /// A call that a handler has made for it as it returns. Where the call names a context, that is the handler's own.
@@ -159,60 +159,182 @@ impl Drop for PlainAct {
     }
 }
 
-/// The acts of a handler that is called once, in order: at most 1,024. Contracts see them as that list.
-#[derive(Drop)]
-pub struct PlainActs {
-    items: Vec<PlainAct>,
+impl PlainAct {
+    /// The call that the act comes to. Where it names a context, that is this one, the handler's own.
+    pub fn into_call(self, context: ContextId) -> Call
+        ensures { result ≡ call_of context self }
+    {
+        if is_message_act(&self) {
+            self.into_message_call(context)
+        } else if is_bus_act(&self) {
+            self.into_bus_call(context)
+        } else {
+            self.into_life_call(context)
+        }
+    }
+
+    fn into_message_call(self, context: ContextId) -> Call
+        requires { IsTrue (is_message_act self) }
+        ensures { result ≡ call_of context self }
+    {
+        match self {
+            PlainAct::Send {
+                address,
+                body,
+                options,
+            } => Call::Send {
+                address,
+                body,
+                options,
+            },
+            PlainAct::Publish {
+                address,
+                body,
+                options,
+            } => Call::Publish {
+                address,
+                body,
+                options,
+            },
+            PlainAct::Request {
+                address,
+                body,
+                options,
+                timeout,
+            } => Call::Request {
+                context,
+                address,
+                body,
+                options,
+                timeout,
+                once: None,
+            },
+            PlainAct::Reply {
+                message,
+                body,
+                options,
+            } => Call::Reply {
+                message,
+                body,
+                options,
+            },
+            PlainAct::Fail {
+                message,
+                code,
+                text,
+            } => Call::Fail {
+                message,
+                code,
+                text,
+            },
+            PlainAct::ReplyRequest {
+                message,
+                body,
+                options,
+                timeout,
+            } => Call::ReplyRequest {
+                message,
+                context,
+                body,
+                options,
+                timeout,
+            },
+            _ => unreachable!(),
+        }
+    }
+
+    fn into_bus_call(self, context: ContextId) -> Call
+        requires { IsTrue (is_bus_act self) }
+        ensures { result ≡ call_of context self }
+    {
+        match self {
+            PlainAct::Register { address, limit } => Call::Register {
+                context,
+                address,
+                limit,
+            },
+            PlainAct::Unregister(consumer) => Call::Unregister(consumer),
+            PlainAct::Pause(consumer) => Call::Pause(consumer),
+            PlainAct::Resume(consumer) => Call::Resume(consumer),
+            PlainAct::Fetch(consumer, count) => Call::Fetch(consumer, count),
+            PlainAct::AddCodec { name, form } => Call::AddCodec { name, form },
+            PlainAct::RemoveCodec(name) => Call::RemoveCodec(name),
+            PlainAct::AddRule {
+                side,
+                condition,
+                verdict,
+            } => Call::AddRule {
+                side,
+                condition,
+                verdict,
+            },
+            PlainAct::RemoveRule(rule) => Call::RemoveRule(rule),
+            PlainAct::Listen { host, port } => Call::Listen {
+                context,
+                host,
+                port,
+            },
+            _ => unreachable!(),
+        }
+    }
+
+    fn into_life_call(self, context: ContextId) -> Call
+        requires { IsTrue (is_life_act self) }
+        ensures { result ≡ call_of context self }
+    {
+        match self {
+            PlainAct::Undeploy { deployment, tell } => Call::Undeploy {
+                deployment,
+                tell: tell.then_some(context),
+            },
+            PlainAct::StartDone(ended) => Call::StartDone(ended),
+            PlainAct::StopDone => Call::StopDone,
+            PlainAct::SetTimer { delay, periodic } => Call::SetTimer {
+                context,
+                delay,
+                periodic,
+            },
+            PlainAct::CancelTimer(timer) => Call::CancelTimer(timer),
+            PlainAct::NewPromise => Call::NewPromise,
+            PlainAct::Complete(promise, value) => Call::Complete(promise, value),
+            PlainAct::FailPromise(promise, code) => Call::FailPromise(promise, code),
+            PlainAct::Compose(kind, parts) => Call::Compose(kind, parts),
+            PlainAct::Await(promise) => Call::Await { context, promise },
+            _ => unreachable!(),
+        }
+    }
 }
 
-impl Model for PlainActs {
-    ghost use Rattle.std.specs.Prelude.{List, length, ◌≤◌};
-    ghost use Rattle.vx_verticle.specs.declared.plain.PlainAct.{PlainAct};
-
-    ghost Value = { List PlainAct };
-
-    ghost use Rattle.std.specs.Coded.{codes};
-    ghost use Rattle.vx_data.specs.contracts.body.Body as body;
-
-    ghost coded = { Prim.hlevel (codes, body.the_row.coded) };
-
-    ghost view = { λ acts. acts.items.items };
-
-    ghost invariant = { λ acts. length acts.items.items ≤ 1024 };
+// Whether the act sends a message or settles one.
+fn is_message_act(act: &PlainAct) -> bool
+    ensures { result ≡ is_message_act act.now }
+{
+    matches!(
+        act,
+        PlainAct::Send { .. }
+            | PlainAct::Publish { .. }
+            | PlainAct::Request { .. }
+            | PlainAct::Reply { .. }
+            | PlainAct::Fail { .. }
+            | PlainAct::ReplyRequest { .. }
+    )
 }
 
-impl PlainActs {
-    /// No acts. The list keeps the allocator.
-    pub fn new(alloc: Global) -> PlainActs
-        ensures { result ≡ [] }
-    {
-        PlainActs {
-            items: Vec::new(alloc),
-        }
-    }
-
-    /// Adds an act at the end. `TooMany` comes exactly where 1,024 are there. A refusal leaves the list as it was.
-    pub fn push(&mut self, act: PlainAct) -> Result<(), (PlainAct, ActFault)>
-        ensures added { OnOk result (self.new ≡ self.old ++ act ∷ []) }
-        ensures full { IsErrAnd result (λ refused. refused.1 ≡ TooMany) ↔ (MAX_ACTS ≤ length self.old) }
-        ensures back { IfErr result (λ refused. refused.0 ≡ act) }
-        ensures unchanged { OnErr result (self.new ≡ self.old) }
-    {
-        if self.items.len() >= MAX_ACTS {
-            return Err((act, ActFault::TooMany));
-        }
-        match self.items.push(act) {
-            Ok(()) => Ok(()),
-            Err(failed) => Err((failed.value, ActFault::NoMemory)),
-        }
-    }
-
-    /// The acts, in order.
-    pub fn into_items(self) -> Vec<PlainAct>
-        ensures items { result.items ≡ self }
-        ensures bound { length result.items ≤ MAX_ACTS }
-    {
-        let PlainActs { items } = self;
-        items
-    }
+// Whether the act is one on consumers, codecs, rules or servers.
+fn is_bus_act(act: &PlainAct) -> bool
+    ensures { result ≡ is_bus_act act.now }
+{
+    matches!(
+        act,
+        PlainAct::Register { .. }
+            | PlainAct::Unregister(_)
+            | PlainAct::Pause(_)
+            | PlainAct::Resume(_)
+            | PlainAct::Fetch(_, _)
+            | PlainAct::AddCodec { .. }
+            | PlainAct::RemoveCodec(_)
+            | PlainAct::AddRule { .. }
+            | PlainAct::RemoveRule(_)
+            | PlainAct::Listen { .. }
+    )
 }

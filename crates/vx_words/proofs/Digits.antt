@@ -1,6 +1,6 @@
 -- Digits, and what `parse` makes of them.
 use Rattle.std.proofs.Common.{◌≡◌, ℕ, ◌^◌, ◌<◌, ◌≤◌, List, [], ◌∷◌, length, Bool, true, false, cond, ◌&&◌, ◌==◌, nat_le, nat_lt, ℤ, pos, neg_ℤ, Some, None, Result, Ok, Err, OkIff, refl, ap, arith, rules, tests, subst}
-use mir.Syntax.{w32}
+use mir.Syntax.{w32, w64}
 use Rattle.std.specs.List.{list_all}
 use Rattle.std.specs.Char.{is_ascii_digit}
 use Rattle.std.specs.Result.{result_ok}
@@ -11,7 +11,7 @@ use Rattle.std.proofs.lemmas.Bool.Decides.{nat_tests}
 use Rattle.std.proofs.lemmas.Str.{IsUtf8-from_ascii}
 use Rattle.std.proofs.lemmas.Str.Parse.{IsNumeralModel, IsDigitsTest, numerals_by_value, parse_digits, parse_signed_minus, parse_signed_digits}
 use Rattle.vx_words.specs.Grammar.{is_digits}
-use Rattle.vx_words.specs.Reading.{number_in, negative_in, positive_in, behind_minus, code_in}
+use Rattle.vx_words.specs.Reading.{number_in, negative_in, positive_in, behind_minus, signed_in}
 use Rattle.vx_words.proofs.Texts.{ascii_at, ascii_utf8}
 use Rattle.vx_words.proofs.Words.{is_same}
 
@@ -74,33 +74,45 @@ number_parsed {E} bits text digits r e h d =
     by_result (Ok x) k = rw (d, is_under (digits_value 10 text) (2 ^ bits) k.0.1) (ap Some k.1)
     by_result (Err x) k = rw (d, not_under (digits_value 10 text) (2 ^ bits) (λ u. k ((digits_parts text d).1, u))) refl
 
--- a code with a minus sign, and one without
-minus_parsed : {E : Type 0} (text : List ℕ) (r : Result ℤ E) → is_digits text ≡ true → OkIff r ((list_all is_ascii_digit text ≡ true) × (0 < length text) × (digits_value 10 text ≤ 2 ^ 31)) (neg_ℤ (pos (digits_value 10 text))) → result_ok r ≡ negative_in text
-minus_parsed text (Ok x) d k = rw (d, is_within (digits_value 10 text) (2 ^ 31) k.0.2) (ap Some k.1)
-minus_parsed text (Err x) d k = let p = digits_parts text d in rw (d, not_within (digits_value 10 text) (2 ^ 31) (λ u. k (p.0, p.1, u))) refl
+-- a number with a minus sign, and one without
+minus_parsed : {E : Type 0} (bits : ℕ) (text : List ℕ) (r : Result ℤ E) → is_digits text ≡ true → OkIff r ((list_all is_ascii_digit text ≡ true) × (0 < length text) × (digits_value 10 text ≤ 2 ^ bits)) (neg_ℤ (pos (digits_value 10 text))) → result_ok r ≡ negative_in bits text
+minus_parsed bits text (Ok x) d k = rw (d, is_within (digits_value 10 text) (2 ^ bits) k.0.2) (ap Some k.1)
+minus_parsed bits text (Err x) d k = let p = digits_parts text d in rw (d, not_within (digits_value 10 text) (2 ^ bits) (λ u. k (p.0, p.1, u))) refl
 
-plain_parsed : {E : Type 0} (text : List ℕ) (r : Result ℤ E) → is_digits text ≡ true → OkIff r ((0 < length text) × (digits_value 10 text < 2 ^ 31)) (pos (digits_value 10 text)) → result_ok r ≡ positive_in text
-plain_parsed text (Ok x) d k = rw (d, is_under (digits_value 10 text) (2 ^ 31) k.0.1) (ap Some k.1)
-plain_parsed text (Err x) d k = rw (d, not_under (digits_value 10 text) (2 ^ 31) (λ u. k ((digits_parts text d).1, u))) refl
+plain_parsed : {E : Type 0} (bits : ℕ) (text : List ℕ) (r : Result ℤ E) → is_digits text ≡ true → OkIff r ((0 < length text) × (digits_value 10 text < 2 ^ bits)) (pos (digits_value 10 text)) → result_ok r ≡ positive_in bits text
+plain_parsed bits text (Ok x) d k = rw (d, is_under (digits_value 10 text) (2 ^ bits) k.0.1) (ap Some k.1)
+plain_parsed bits text (Err x) d k = rw (d, not_under (digits_value 10 text) (2 ^ bits) (λ u. k ((digits_parts text d).1, u))) refl
 
-pub code_parsed : {E : Type 0} (text numeral : List ℕ) (r : Result ℤ E) → numeral ≡ text → ParsesSigned w32 10 numeral r → is_digits (behind_minus text) ≡ true → result_ok r ≡ code_in text
-unfolding code_in
+pub code_parsed : {E : Type 0} (text numeral : List ℕ) (r : Result ℤ E) → numeral ≡ text → ParsesSigned w32 10 numeral r → is_digits (behind_minus text) ≡ true → result_ok r ≡ signed_in 31 text
+unfolding signed_in
 code_parsed [] numeral r e h d = absurd (cc)
 code_parsed {E} (b ∷ bs) numeral r e h d = by_sign (b == 45) refl d
   where
     parsed : ParsesSigned w32 10 (b ∷ bs) r
     parsed = subst (λ (v : List ℕ). ParsesSigned w32 10 v r) e h
 
-    by_sign : (minus : Bool) → b == 45 ≡ minus → is_digits (cond minus bs (b ∷ bs)) ≡ true → result_ok r ≡ cond minus (negative_in bs) (positive_in (b ∷ bs))
-    by_sign true s d = minus_parsed bs r d (parse_signed_minus own w32 (b ∷ bs) r parsed (is_same b 45 s))
-    by_sign false s d = plain_parsed (b ∷ bs) r d (parse_signed_digits own w32 (b ∷ bs) r parsed (digits_parts (b ∷ bs) d).0)
+    by_sign : (minus : Bool) → b == 45 ≡ minus → is_digits (cond minus bs (b ∷ bs)) ≡ true → result_ok r ≡ cond minus (negative_in 31 bs) (positive_in 31 (b ∷ bs))
+    by_sign true s d = minus_parsed 31 bs r d (parse_signed_minus own w32 (b ∷ bs) r parsed (is_same b 45 s))
+    by_sign false s d = plain_parsed 31 (b ∷ bs) r d (parse_signed_digits own w32 (b ∷ bs) r parsed (digits_parts (b ∷ bs) d).0)
 
-pub no_code : (text : List ℕ) → is_digits (behind_minus text) ≡ false → None ≡ code_in text
-unfolding code_in
-no_code [] d = refl
-no_code (b ∷ bs) d = by_sign (b == 45) d
+pub value_parsed : {E : Type 0} (text numeral : List ℕ) (r : Result ℤ E) → numeral ≡ text → ParsesSigned w64 10 numeral r → is_digits (behind_minus text) ≡ true → result_ok r ≡ signed_in 63 text
+unfolding signed_in
+value_parsed [] numeral r e h d = absurd (cc)
+value_parsed {E} (b ∷ bs) numeral r e h d = by_sign (b == 45) refl d
   where
-    by_sign : (minus : Bool) → is_digits (cond minus bs (b ∷ bs)) ≡ false → None ≡ cond minus (negative_in bs) (positive_in (b ∷ bs))
+    parsed : ParsesSigned w64 10 (b ∷ bs) r
+    parsed = subst (λ (v : List ℕ). ParsesSigned w64 10 v r) e h
+
+    by_sign : (minus : Bool) → b == 45 ≡ minus → is_digits (cond minus bs (b ∷ bs)) ≡ true → result_ok r ≡ cond minus (negative_in 63 bs) (positive_in 63 (b ∷ bs))
+    by_sign true s d = minus_parsed 63 bs r d (parse_signed_minus own w64 (b ∷ bs) r parsed (is_same b 45 s))
+    by_sign false s d = plain_parsed 63 (b ∷ bs) r d (parse_signed_digits own w64 (b ∷ bs) r parsed (digits_parts (b ∷ bs) d).0)
+
+pub no_signed : (bits : ℕ) (text : List ℕ) → is_digits (behind_minus text) ≡ false → None ≡ signed_in bits text
+unfolding signed_in
+no_signed bits [] d = refl
+no_signed bits (b ∷ bs) d = by_sign (b == 45) d
+  where
+    by_sign : (minus : Bool) → is_digits (cond minus bs (b ∷ bs)) ≡ false → None ≡ cond minus (negative_in bits bs) (positive_in bits (b ∷ bs))
     by_sign true d = rw d refl
     by_sign false d = rw d refl
 
@@ -116,9 +128,9 @@ minus_low b bs s h = ascii_utf8 (b ∷ bs) (rw (first, digits_low bs h) refl)
         let p = and_parts (is_ascii_digit d) (list_all is_ascii_digit ds) k in
         rw (is_under d 128 (digit_low d p.0), digits_low ds p.1) refl
 
-pub code_utf8 : (text : List ℕ) → is_digits (behind_minus text) ≡ true → IsUtf8 text
-code_utf8 [] d = absurd (cc)
-code_utf8 (b ∷ bs) d = by_sign (b == 45) refl d
+pub signed_utf8 : (text : List ℕ) → is_digits (behind_minus text) ≡ true → IsUtf8 text
+signed_utf8 [] d = absurd (cc)
+signed_utf8 (b ∷ bs) d = by_sign (b == 45) refl d
   where
     by_sign : (minus : Bool) → b == 45 ≡ minus → is_digits (cond minus bs (b ∷ bs)) ≡ true → IsUtf8 (b ∷ bs)
     by_sign true s d = minus_low b bs s (digits_parts bs d).0

@@ -1,5 +1,5 @@
 -- How a line ends: what is read is spelled so, and what is spelled so is read.
-use Rattle.std.proofs.Common.{◌≡◌, ℕ, ◌+◌, ◌<◌, ◌≤◌, zero, suc, List, [], ◌∷◌, ◌++◌, length, replicate, Bool, true, false, cond, not, ◌==◌, nat_le, arith, refl, sym, ◌∙◌, ap, Option, Some, None, Ok, Err, subst, inl, inr, codes}
+use Rattle.std.proofs.Common.{◌≡◌, ℕ, ◌+◌, ◌<◌, ◌≤◌, zero, suc, List, [], ◌∷◌, ◌++◌, length, replicate, true, false, not, ◌==◌, nat_le, arith, refl, sym, ◌∙◌, ap, Option, Some, None, Ok, Err, subst, inl, inr, codes}
 use Rattle.std.specs.Str.{IsUtf8, bytes_eq}
 use Rattle.std.proofs.lemmas.Slice.Eq.{bytes_eq-Decides}
 use Rattle.vx_data.specs.Tree.{Tree}
@@ -13,12 +13,14 @@ use Rattle.vx_json.proofs.Keeping.{kept, keeps}
 use Rattle.vx_json.proofs.Documents.{json_sound, json_complete, answer_body}
 use Rattle.vx_message.specs.declared.rules.CodecForm.{CodecForm}
 use Rattle.vx_message.specs.declared.rules.CodecForm.TheVariants.{Copy, KeepKeys, DropKeys, Wrap}
-use Rattle.vx_words.specs.Grammar.{begins_with, is_blank, AText, SpellsBody, form_words, AreWords, Ending, Nothing, TheRest, ABody, ACodecForm, EndValue, Ends}
-use Rattle.vx_words.specs.Reading.{spaces_len, behind_spaces, without_spaces, word_at, split_word, text_in, token_at, end_at, rest_at, body_in, body_at, with_word, words_in, words_at, codec_form_by, codec_form_at, ending_at, ◌>>=◌}
-use Rattle.vx_words.proofs.Words.{IsTail, Begins, is_false, spaces_tail, bind_some, guard_some, chosen, is_same, spaces_take, spaces_again, spaces_end, behind_is, word_take, word_again, word_shorter, blank_tail, blank_end}
+use Rattle.vx_words.specs.Grammar.{begins_with, AText, SpellsBody, form_words, AreWords, Ending, Nothing, TheRest, ABody, ACodecForm, ALane, AnEnd, AResult, EndValue, Ends}
+use Rattle.vx_words.specs.Reading.{behind_spaces, word_at, text_in, token_at, end_at, rest_at, body_in, body_at, with_word, words_in, words_at, codec_form_by, codec_form_at, ending_at, ◌>>=◌}
+use Rattle.vx_words.proofs.Words.{IsTail, Begins, is_false, spaces_tail, bind_some, guard_some, chosen, is_same, spaces_take, spaces_again, spaces_end, behind_is, word_take, word_again, word_shorter, blank_tail}
 use Rattle.vx_words.proofs.Texts.{ascii_utf8}
 use Rattle.vx_words.proofs.Digits.{few_by, is_within}
 use Rattle.vx_words.proofs.Tokens.{text_take, text_again}
+use Rattle.vx_words.proofs.Nexts.{no_word, end_take, end_again}
+use Rattle.vx_words.proofs.Lanes.{lane_take, lane_again, lane_tail, task_end_take, task_end_again, task_end_tail, result_take, result_again, result_tail}
 
 -- ## Bodies
 
@@ -60,14 +62,6 @@ body_deep text fault deep only =
 
 -- ## Words to the end
 
-end_take : (tail : List ℕ) (x : Unit {0}) → end_at tail ≡ Some x → is_blank tail ≡ true
-unfolding end_at
-end_take tail x h = (guard_some (is_blank tail) (Some tt) x h).0
-
-pub end_again : (tail : List ℕ) → is_blank tail ≡ true → end_at tail ≡ Some tt
-unfolding end_at
-end_again tail h = rw h refl
-
 none_take : (tail : List ℕ) (words : List (List ℕ)) → (end_at tail >>= λ _. Some []) ≡ Some words → AreWords words tail
 none_take tail words h =
     let x = bind_some (end_at tail) _ words h in
@@ -88,14 +82,6 @@ words_take (suc turns) tail words h = by_word (word_at tail) refl h (λ rest mor
         let s = text_take w.0 t.0 t.1 in
         let p = word_take tail w e in
         subst (λ (v : List (List ℕ)). AreWords v tail) same (subst (λ (v : List ℕ). AreWords (v ∷ m.0) tail) (sym s.0) (p.spaces, w.1, p.split, p.is, s.1, again w.1 m.0 m.1))
-
-pub no_word : (tail : List ℕ) → is_blank tail ≡ true → word_at tail ≡ None
-unfolding word_at behind_spaces
-no_word tail h = by_test (spaces_len tail == 0) (blank_end tail h)
-  where
-    by_test : (b : Bool) → without_spaces tail ≡ [] → (cond b None (Some (without_spaces tail)) >>= split_word) ≡ None
-    by_test true e = refl
-    by_test false e = rw e refl
 
 -- enough turns make no difference
 words_enough : (n m : ℕ) (tail : List ℕ) → length tail ≤ n → length tail ≤ m → words_in n tail ≡ words_in m tail
@@ -281,12 +267,18 @@ ends_take Nothing tail value h = end_take tail value h
 ends_take TheRest tail value h = rest_take tail value h
 ends_take ABody tail value h = body_at_take tail value h
 ends_take ACodecForm tail value h = codec_form_take tail value h
+ends_take ALane tail value h = lane_take tail value h
+ends_take AnEnd tail value h = task_end_take tail value h
+ends_take AResult tail value h = result_take tail value h
 
 pub ends_again : (ending : Ending) (value : EndValue ending) (tail : List ℕ) → Ends ending value tail → ending_at ending tail ≡ Some value
 ends_again Nothing value tail s = end_again tail s
 ends_again TheRest value tail s = rest_again value tail s
 ends_again ABody value tail s = body_at_again tail value s
 ends_again ACodecForm value tail s = codec_form_again value tail s
+ends_again ALane value tail s = lane_again value tail s
+ends_again AnEnd value tail s = task_end_again value tail s
+ends_again AResult value tail s = result_again value tail s
 
 -- an ending is empty or begins with a space
 pub ends_tail : (ending : Ending) (value : EndValue ending) (tail : List ℕ) → Ends ending value tail → IsTail tail
@@ -295,3 +287,6 @@ ends_tail TheRest value tail (inl s) = subst IsTail (sym s.1) tt
 ends_tail TheRest value tail (inr s) = spaces_tail s.0 tail value s.1
 ends_tail ABody value tail s = subst IsTail (sym s.1) refl
 ends_tail ACodecForm value tail s = words_tail (form_words value) tail s
+ends_tail ALane value tail s = lane_tail value tail s
+ends_tail AnEnd value tail s = task_end_tail value tail s
+ends_tail AResult value tail s = result_tail value tail s

@@ -3,5 +3,7 @@ pub mod Digits
 pub mod Words
 pub mod Tokens
 pub mod Sequences
+pub mod Nexts
+pub mod Lanes
 pub mod Endings
 pub mod Values

@@ -1,5 +1,5 @@
 -- What one word says: what is read is spelled so, and what is spelled so is read.
-use Rattle.std.proofs.Common.{◌≡◌, ℕ, ◌^◌, ℤ, pos, neg_ℤ, List, [], ◌∷◌, ◌++◌, take, drop, true, false, ◌==◌, nat_lt, arith, refl, sym, ◌∙◌, ap, tests, Option, Some, None, inl, inr, subst, codes}
+use Rattle.std.proofs.Common.{◌≡◌, ℕ, ◌^◌, ℤ, pos, neg_ℤ, List, [], ◌∷◌, ◌++◌, take, drop, true, false, ◌==◌, nat_lt, nat_le, arith, refl, sym, ◌∙◌, ap, tests, Option, Some, None, inl, inr, subst, codes}
 use Rattle.std.specs.List.{list_all}
 use Rattle.std.specs.Char.{is_ascii_digit}
 use Rattle.std.specs.Str.{bytes_eq, is_utf8}
@@ -16,8 +16,8 @@ use Rattle.vx_message.specs.declared.rules.Side.{Side}
 use Rattle.vx_message.specs.declared.rules.Side.TheVariants as sides
 use Rattle.vx_message.specs.declared.rules.Verdict.{Verdict}
 use Rattle.vx_message.specs.declared.rules.Verdict.TheVariants.{Stop, Add}
-use Rattle.vx_words.specs.Grammar.{is_digits, is_number, SpellsNumber, SpellsContext, is_negated, SpellsCode, SpellsText, SpellsHeader, SpellsSide, SpellsCondition, SpellsVerdict, Token, AWord, ANumber, AContext, ACode, AText, AHeader, ASide, ACondition, AVerdict, TokenValue, SpellsToken}
-use Rattle.vx_words.specs.Reading.{place_of, number_in, instance_in, context_in, negative_in, positive_in, code_in, text_in, value_in, header_in, side_in, has_in, at_in, condition_in, verdict_in, token_in}
+use Rattle.vx_words.specs.Grammar.{is_digits, is_number, SpellsNumber, SpellsAtMost, SpellsContext, is_negated, SpellsSigned, SpellsText, SpellsHeader, SpellsSide, SpellsCondition, SpellsVerdict, Token, AWord, ANumber, AtMost, AContext, ASigned, AText, AKnown, AHeader, ASide, ACondition, AVerdict, TokenValue, SpellsToken}
+use Rattle.vx_words.specs.Reading.{place_of, number_in, at_most_in, instance_in, context_in, negative_in, positive_in, signed_in, text_in, value_in, header_in, side_in, has_in, at_in, condition_in, verdict_in, token_in}
 use Rattle.vx_words.proofs.Digits.{digits_parts}
 use Rattle.vx_words.proofs.Words.{HasNo, has_no_by, has_no_all, bind_some, guard_some, chosen, is_same, letter_found, front_has_no, cut_letter, cut_nothing}
 
@@ -50,17 +50,25 @@ context_take text x h =
     let made : record { entry = record { 0 = e.0 }; instance = i.0 } ≡ x = cc in
     instance_take text front back e.0 i.0 x (sym (take-append-drop (place_of 46 text) text)) (λ q tail k. letter_found 46 text q tail k) e.1 i.1 (sym made)
 
-code_take : (text : List ℕ) (x : ℤ) → code_in text ≡ Some x → SpellsCode x text
-unfolding code_in
-code_take [] x h = cc
-code_take (b ∷ bs) x h =
-    elim (chosen (b == 45) (negative_in bs) (positive_in (b ∷ bs)) (Some x) h) [
+at_most_take : (limit : ℕ) (text : List ℕ) (n : ℕ) → at_most_in limit text ≡ Some n → SpellsAtMost limit n text
+unfolding at_most_in
+at_most_take limit text n h =
+    let k = bind_some (number_in 32 text) _ n h in
+    let g = guard_some (nat_le k.0 limit) (Some k.0) n k.2 in
+    let e : k.0 ≡ n = cc in
+    subst (λ (v : ℕ). SpellsAtMost limit v text) e (number_take 32 text k.0 k.1, g.0)
+
+signed_take : (bits : ℕ) (text : List ℕ) (x : ℤ) → signed_in bits text ≡ Some x → SpellsSigned bits x text
+unfolding signed_in
+signed_take bits [] x h = cc
+signed_take bits (b ∷ bs) x h =
+    elim (chosen (b == 45) (negative_in bits bs) (positive_in bits (b ∷ bs)) (Some x) h) [
       | inl w ↦
-          (let k = guard_some (is_negated bs) (Some (neg_ℤ (pos (digits_value 10 bs)))) x w.1 in
+          (let k = guard_some (is_negated bits bs) (Some (neg_ℤ (pos (digits_value 10 bs)))) x w.1 in
           let e : neg_ℤ (pos (digits_value 10 bs)) ≡ x = cc in
           inr (bs, ap (λ t. t ∷ bs) (is_same b 45 w.0), k.0, sym e))
       | inr w ↦
-          (let k = guard_some (is_number 31 (b ∷ bs)) (Some (pos (digits_value 10 (b ∷ bs)))) x w.1 in
+          (let k = guard_some (is_number bits (b ∷ bs)) (Some (pos (digits_value 10 (b ∷ bs)))) x w.1 in
           let e : pos (digits_value 10 (b ∷ bs)) ≡ x = cc in
           inl (k.0, sym e))
     ]
@@ -151,9 +159,11 @@ verdict_take text x h =
 pub token_take : (token : Token) (text : List ℕ) (x : TokenValue token) → token_in token text ≡ Some x → SpellsToken token x text
 token_take (AWord word) text x h = (bytes_eq-Decides text word).0 (guard_some (bytes_eq text word) (Some tt) x h).0
 token_take (ANumber bits) text x h = number_take bits text x h
+token_take (AtMost limit) text x h = at_most_take limit text x h
 token_take AContext text x h = context_take text x h
-token_take ACode text x h = code_take text x h
+token_take (ASigned bits) text x h = signed_take bits text x h
 token_take AText text x h = text_take text x h
+token_take (AKnown test) text x h = let k = guard_some (test text) (text_in text) x h in (k.0, text_take text x k.1)
 token_take AHeader text x h = header_take text x h
 token_take ASide text x h = side_take text x h
 token_take ACondition text x h = condition_take text x h
@@ -188,14 +198,18 @@ context_again x text (inr s) =
     let c = cut_letter 46 s.0 s.1 refl (digits_no_point s.0 (number_digits 64 x.entry.0 s.0 s.3)) in
     rw s.2 (rw (c.0, c.1) (rw (number_again 64 x.entry.0 s.0 s.3) (rw (number_again 32 x.instance s.1 s.4) refl)))
 
-code_again : (x : ℤ) (text : List ℕ) → SpellsCode x text → code_in text ≡ Some x
-unfolding code_in
-code_again x [] (inl s) = absurd (cc (s.0))
-code_again x (b ∷ bs) (inl s) =
-    let digits = digits_parts (b ∷ bs) (and_parts (is_digits (b ∷ bs)) (nat_lt (digits_value 10 (b ∷ bs)) (2 ^ 31)) s.0).0 in
+at_most_again : (limit n : ℕ) (text : List ℕ) → SpellsAtMost limit n text → at_most_in limit text ≡ Some n
+unfolding at_most_in
+at_most_again limit n text s = rw (number_again 32 n text s.0) (rw s.1 refl)
+
+signed_again : (bits : ℕ) (x : ℤ) (text : List ℕ) → SpellsSigned bits x text → signed_in bits text ≡ Some x
+unfolding signed_in
+signed_again bits x [] (inl s) = absurd (cc (s.0))
+signed_again bits x (b ∷ bs) (inl s) =
+    let digits = digits_parts (b ∷ bs) (and_parts (is_digits (b ∷ bs)) (nat_lt (digits_value 10 (b ∷ bs)) (2 ^ bits)) s.0).0 in
     let first : is_ascii_digit b ≡ true = (and_parts (is_ascii_digit b) (list_all is_ascii_digit bs) digits.0).0 in
     rw ((digit_letters b first).1) (rw s.0 (ap Some (sym s.1)))
-code_again x text (inr s) = rw s.1 (rw s.2 (ap Some (sym s.3)))
+signed_again bits x text (inr s) = rw s.1 (rw s.2 (ap Some (sym s.3)))
 
 pub text_again : (x text : List ℕ) → SpellsText x text → text_in text ≡ Some x
 unfolding text_in
@@ -226,9 +240,11 @@ verdict_again (Add name value) text s = rw s.1 (rw (header_again (name, value) s
 pub token_again : (token : Token) (x : TokenValue token) (text : List ℕ) → SpellsToken token x text → token_in token text ≡ Some x
 token_again (AWord word) x text s = rw s (rw ((bytes_eq-Decides word word).1 refl) refl)
 token_again (ANumber bits) x text s = number_again bits x text s
+token_again (AtMost limit) x text s = at_most_again limit x text s
 token_again AContext x text s = context_again x text s
-token_again ACode x text s = code_again x text s
+token_again (ASigned bits) x text s = signed_again bits x text s
 token_again AText x text s = text_again x text s
+token_again (AKnown test) x text s = rw s.0 (text_again x text s.1)
 token_again AHeader x text s = header_again x text s
 token_again ASide x text s = side_again x text s
 token_again ACondition x text s = condition_again x text s

@@ -1,34 +1,11 @@
 -- The words behind the first one, and the ending: what is read is spelled so, and what is spelled so is read.
-use Rattle.std.proofs.Common.{◌≡◌, ℕ, ◌+◌, List, [], ◌∷◌, ◌++◌, replicate, true, refl, ◌∙◌, ap, Some, subst}
-use Rattle.vx_words.specs.Grammar.{is_word, Token, TokenValue, SpellsToken, Values, Ending, Follow}
-use Rattle.vx_words.specs.Reading.{word_at, token_in, token_at, values_at}
-use Rattle.vx_words.proofs.Words.{IsTail, bind_some, spaces_tail, word_take, word_again}
-use Rattle.vx_words.proofs.Tokens.{token_take, token_again}
+use Rattle.std.proofs.Common.{◌≡◌, ℕ, List, [], ◌∷◌, ◌++◌, refl, Some, subst}
+use Rattle.vx_words.specs.Grammar.{Token, Values, Ending, Follow}
+use Rattle.vx_words.specs.Reading.{token_at, values_at}
+use Rattle.vx_words.proofs.Words.{IsTail, bind_some, spaces_tail, word_again}
+use Rattle.vx_words.proofs.Tokens.{token_again}
+use Rattle.vx_words.proofs.Nexts.{value_take}
 use Rattle.vx_words.proofs.Endings.{ends_take, ends_again, ends_tail}
-
--- A word that spells a value stands behind spaces, and a rest follows.
-record Spelled (token : Token) (value : TokenValue token) (rest tail : List ℕ) : Type 0 where
-  spaces : ℕ
-  word : List ℕ
-  split : tail ≡ replicate (spaces + 1) 32 ++ (word ++ rest)
-  is : is_word word ≡ true
-  spells : SpellsToken token value word
-
-value_take : (token : Token) (tail : List ℕ) (x : TokenValue token × List ℕ) → token_at token tail ≡ Some x → Spelled token x.0 x.1 tail
-value_take token tail x h =
-    let g = bind_some (word_at tail) _ x h in
-    let k = bind_some (token_in token g.0.0) _ x g.2 in
-    let p = word_take tail g.0 g.1 in
-    let e : (k.0, g.0.1) ≡ x = cc in
-    let e0 : k.0 ≡ x.0 = ap (λ (v : TokenValue token × List ℕ). v.0) e in
-    let e1 : g.0.1 ≡ x.1 = ap (λ (v : TokenValue token × List ℕ). v.1) e in
-    record {
-      spaces = p.spaces;
-      word = g.0.0;
-      split = p.split ∙ ap (λ t. replicate (p.spaces + 1) 32 ++ (g.0.0 ++ t)) e1;
-      is = p.is;
-      spells = token_take token g.0.0 x.0 (k.1 ∙ ap Some e0);
-    }
 
 pub values_take : (tokens : List Token) (ending : Ending) (tail : List ℕ) (values : Values tokens ending) → values_at tokens ending tail ≡ Some values → Follow tokens ending values tail
 values_take [] ending tail values h = ends_take ending tail values h

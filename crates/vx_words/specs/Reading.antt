@@ -9,6 +9,12 @@ use Rattle.vx_data.specs.Tree.{Tree}
 use Rattle.vx_data.specs.Bodies.{tree_depth}
 use Rattle.vx_json.specs.Grammar.{max_read_depth}
 use Rattle.vx_json.specs.Reading.{after, json_of}
+use Rattle.vx_message.specs.declared.DoneResult.{DoneResult}
+use Rattle.vx_message.specs.declared.DoneResult.TheVariants as results
+use Rattle.vx_message.specs.declared.Lane.{Lane}
+use Rattle.vx_message.specs.declared.Lane.TheVariants as lanes
+use Rattle.vx_call.specs.declared.call.End.{End}
+use Rattle.vx_call.specs.declared.call.End.TheVariants as ends
 use Rattle.vx_message.specs.declared.rules.CodecForm.{CodecForm}
 use Rattle.vx_message.specs.declared.rules.CodecForm.TheVariants.{Copy, KeepKeys, DropKeys, Wrap}
 use Rattle.vx_message.specs.declared.rules.Condition.{Condition}
@@ -19,7 +25,7 @@ use Rattle.vx_message.specs.declared.rules.Verdict.{Verdict}
 use Rattle.vx_message.specs.declared.rules.Verdict.TheVariants.{Stop, Add}
 use Rattle.vx_words.specs.declared.fault.LineFault.{LineFault}
 use Rattle.vx_words.specs.declared.fault.LineFault.TheVariants as faults
-use Rattle.vx_words.specs.Grammar.{is_number, is_negated, is_blank, is_pass, Token, AWord, ANumber, AContext, ACode, AText, AHeader, ASide, ACondition, AVerdict, TokenValue, Ending, Nothing, TheRest, ABody, ACodecForm, EndValue, Values}
+use Rattle.vx_words.specs.Grammar.{is_number, is_negated, is_blank, is_pass, Token, AWord, ANumber, AtMost, AContext, ASigned, AText, AKnown, AHeader, ASide, ACondition, AVerdict, TokenValue, Ending, Nothing, TheRest, ABody, ACodecForm, ALane, AnEnd, AResult, EndValue, Values}
 
 -- what a step reads, and the next step from there
 infixl 10 ◌>>=◌
@@ -87,20 +93,24 @@ context_in text = do
   instance ← instance_in (drop (place_of 46 text) text)
   Some (record { entry = record { 0 = entry }; instance = instance })
 
-abbrev pub negative_in : List ℕ → Option ℤ
-negative_in digits = if is_negated digits then Some (neg_ℤ (pos (digits_value 10 digits))) else None
+-- the number of 32 bits, where it is at most this
+unfoldable pub at_most_in : ℕ → List ℕ → Option ℕ
+at_most_in limit text = number_in 32 text >>= λ number. (if nat_le number limit then Some number else None)
 
-abbrev pub positive_in : List ℕ → Option ℤ
-positive_in digits = if is_number 31 digits then Some (pos (digits_value 10 digits)) else None
+abbrev pub negative_in : ℕ → List ℕ → Option ℤ
+negative_in bits digits = if is_negated bits digits then Some (neg_ℤ (pos (digits_value 10 digits))) else None
 
--- the digits of a code, behind its sign
+abbrev pub positive_in : ℕ → List ℕ → Option ℤ
+positive_in bits digits = if is_number bits digits then Some (pos (digits_value 10 digits)) else None
+
+-- the digits of a number, behind its sign
 abbrev pub behind_minus : List ℕ → List ℕ
 behind_minus [] = []
 behind_minus (b ∷ bs) = if b == 45 then bs else b ∷ bs
 
-unfoldable pub code_in : List ℕ → Option ℤ
-code_in [] = None
-code_in (b ∷ bs) = if b == 45 then negative_in bs else positive_in (b ∷ bs)
+unfoldable pub signed_in : ℕ → List ℕ → Option ℤ
+signed_in bits [] = None
+signed_in bits (b ∷ bs) = if b == 45 then negative_in bits bs else positive_in bits (b ∷ bs)
 
 -- the text of bytes that are UTF-8
 unfoldable pub text_in : List ℕ → Option (List ℕ)
@@ -137,9 +147,11 @@ verdict_in text = if bytes_eq text (codes "stop") then Some Stop else (after (co
 abbrev pub token_in : (token : Token) → List ℕ → Option (TokenValue token)
 token_in (AWord word) text = if bytes_eq text word then Some tt else None
 token_in (ANumber bits) text = number_in bits text
+token_in (AtMost limit) text = at_most_in limit text
 token_in AContext text = context_in text
-token_in ACode text = code_in text
+token_in (ASigned bits) text = signed_in bits text
 token_in AText text = text_in text
+token_in (AKnown test) text = if test text then text_in text else None
 token_in AHeader text = header_in text
 token_in ASide text = side_in text
 token_in ACondition text = condition_in text
@@ -193,11 +205,57 @@ codec_form_by word tail =
 unfoldable pub codec_form_at : List ℕ → Option CodecForm
 codec_form_at tail = word_at tail >>= λ word. codec_form_by word.0 word.1
 
+-- one word that says something, and nothing else
+abbrev pub last_at : (token : Token) → List ℕ → Option (TokenValue token)
+last_at token tail = token_at token tail >>= λ x. (end_at x.1 >>= λ _. Some x.0)
+
+-- a lane, behind its first word
+abbrev pub lane_by : List ℕ → List ℕ → Option Lane
+lane_by word tail =
+    if bytes_eq word (codes "loop") then (last_at (ANumber 8) tail >>= λ number. Some (lanes.Loop number))
+    else if bytes_eq word (codes "pool") then (end_at tail >>= λ _. Some lanes.Pool)
+    else if bytes_eq word (codes "named") then (last_at (ANumber 64) tail >>= λ entry. Some (lanes.Named (record { 0 = record { 0 = entry } })))
+    else if bytes_eq word (codes "own") then (last_at AContext tail >>= λ context. Some (lanes.Own context))
+    else None
+
+unfoldable pub lane_at : List ℕ → Option Lane
+lane_at tail = word_at tail >>= λ word. lane_by word.0 word.1
+
+-- what the next word leads to, or this where none follows
+abbrev pub by_word : {A : Type 0} → A → (List ℕ → List ℕ → Option A) → List ℕ → Option (List ℕ × List ℕ) → Option A
+by_word without by tail None = end_at tail >>= λ _. Some without
+by_word without by tail (Some word) = by word.0 word.1
+
+-- how a task ends, behind its first word
+abbrev pub task_end_by : List ℕ → List ℕ → Option End
+task_end_by word tail =
+    if bytes_eq word (codes "later") then (end_at tail >>= λ _. Some ends.Later)
+    else if bytes_eq word (codes "value") then (last_at (ASigned 63) tail >>= λ value. Some (ends.Value value))
+    else if bytes_eq word (codes "fail") then (last_at (ASigned 31) tail >>= λ code. Some (ends.Fail code))
+    else if bytes_eq word (codes "nomemory") then (end_at tail >>= λ _. Some ends.NoMemory)
+    else None
+
+unfoldable pub task_end_at : List ℕ → Option End
+task_end_at tail = by_word ends.Done task_end_by tail (word_at tail)
+
+-- how a start ends, behind its first word
+abbrev pub result_by : List ℕ → List ℕ → Option DoneResult
+result_by word tail =
+    if bytes_eq word (codes "fail") then (last_at (ASigned 31) tail >>= λ code. Some (results.Fail code))
+    else if bytes_eq word (codes "nomemory") then (end_at tail >>= λ _. Some results.NoMemory)
+    else None
+
+unfoldable pub result_at : List ℕ → Option DoneResult
+result_at tail = by_word results.Ok result_by tail (word_at tail)
+
 abbrev pub ending_at : (ending : Ending) → List ℕ → Option (EndValue ending)
 ending_at Nothing tail = end_at tail
 ending_at TheRest tail = rest_at tail
 ending_at ABody tail = body_at tail
 ending_at ACodecForm tail = codec_form_at tail
+ending_at ALane tail = lane_at tail
+ending_at AnEnd tail = task_end_at tail
+ending_at AResult tail = result_at tail
 
 abbrev pub values_at : (tokens : List Token) (ending : Ending) → List ℕ → Option (Values tokens ending)
 values_at [] ending tail = ending_at ending tail

@@ -1,16 +1,17 @@
 //! How a line ends behind its last piece.
 ghost use Rattle.std.specs.Prelude.{◌≡◌};
 ghost use Rattle.vx_words.specs.Grammar as grammar;
-ghost use Rattle.vx_words.specs.Reading.{Gives, end_at, rest_at, body_in, body_at, words_at, codec_form_at};
+ghost use Rattle.vx_words.specs.Reading.{Gives, end_at, rest_at, body_in, body_at, words_at, codec_form_at, lane_at, task_end_at, result_at};
 
 use crate::fault::{LineFault, MISFIT};
 use crate::piece;
 use crate::token::text;
 use crate::word::{skip_spaces, word};
 use std::alloc::Global;
-use vx_data::{Body, List, Text};
+use vx_call::End;
+use vx_data::{Body, EntryNo, List, PoolId, Text};
 use vx_json::{JsonFault, read_body};
-use vx_message::CodecForm;
+use vx_message::{CodecForm, DoneResult, Lane};
 
 fn is_blank(text: &[u8]) -> bool
     ensures { result ≡ grammar.is_blank text.now }
@@ -92,6 +93,81 @@ pub fn codec_form(alloc: Global, tail: &[u8]) -> Result<CodecForm, LineFault>
         let (key, tail) = piece::text(alloc, tail)?;
         end(tail)?;
         Ok(CodecForm::Wrap(key))
+    } else {
+        Err(MISFIT)
+    }
+}
+
+/// The lane that a task is taken from: `loop N`, `pool`, `named E` or `own C`.
+#[tactic(auto, unfolding(crate::specs::Reading::lane_at))]
+pub fn lane(tail: &[u8]) -> Result<Lane, LineFault>
+    ensures { Gives (λ lane. lane) result (lane_at tail.now) }
+{
+    let (word, tail) = word(tail).ok_or(MISFIT)?;
+    if word == b"loop".as_slice() {
+        let (number, tail) = piece::byte_number(tail)?;
+        end(tail)?;
+        Ok(Lane::Loop(number))
+    } else if word == b"pool".as_slice() {
+        end(tail)?;
+        Ok(Lane::Pool)
+    } else if word == b"named".as_slice() {
+        let (entry, tail) = piece::number(tail)?;
+        end(tail)?;
+        Ok(Lane::Named(PoolId(EntryNo(entry))))
+    } else if word == b"own".as_slice() {
+        let (context, tail) = piece::context(tail)?;
+        end(tail)?;
+        Ok(Lane::Own(context))
+    } else {
+        Err(MISFIT)
+    }
+}
+
+/// How a task ends: nothing, `later`, `value V`, `fail V` or `nomemory`.
+#[tactic(auto, unfolding(crate::specs::Reading::task_end_at))]
+pub fn task_end(tail: &[u8]) -> Result<End, LineFault>
+    ensures { Gives (λ end. end) result (task_end_at tail.now) }
+{
+    let Some((word, behind)) = word(tail) else {
+        end(tail)?;
+        return Ok(End::Done);
+    };
+    if word == b"later".as_slice() {
+        end(behind)?;
+        Ok(End::Later)
+    } else if word == b"value".as_slice() {
+        let (value, behind) = piece::value(behind)?;
+        end(behind)?;
+        Ok(End::Value(value))
+    } else if word == b"fail".as_slice() {
+        let (code, behind) = piece::code(behind)?;
+        end(behind)?;
+        Ok(End::Fail(code))
+    } else if word == b"nomemory".as_slice() {
+        end(behind)?;
+        Ok(End::NoMemory)
+    } else {
+        Err(MISFIT)
+    }
+}
+
+/// How a start ends: nothing, `fail V` or `nomemory`.
+#[tactic(auto, unfolding(crate::specs::Reading::result_at))]
+pub fn start_result(tail: &[u8]) -> Result<DoneResult, LineFault>
+    ensures { Gives (λ ended. ended) result (result_at tail.now) }
+{
+    let Some((word, behind)) = word(tail) else {
+        end(tail)?;
+        return Ok(DoneResult::Ok);
+    };
+    if word == b"fail".as_slice() {
+        let (code, behind) = piece::code(behind)?;
+        end(behind)?;
+        Ok(DoneResult::Fail(code))
+    } else if word == b"nomemory".as_slice() {
+        end(behind)?;
+        Ok(DoneResult::NoMemory)
     } else {
         Err(MISFIT)
     }

@@ -1,5 +1,5 @@
 //! The pieces of a line, each a word behind the spaces before it, with the tail behind it.
-ghost use Rattle.vx_words.specs.Grammar.{AWord, ANumber, AContext, ACode, AText, ASide, ACondition, AVerdict};
+ghost use Rattle.vx_words.specs.Grammar.{AWord, ANumber, AtMost, AContext, ASigned, AText, ASide, ACondition, AVerdict};
 ghost use Rattle.vx_words.specs.Reading.{Gives, token_at};
 
 use crate::fault::{LineFault, MISFIT};
@@ -39,9 +39,36 @@ pub fn small_number(tail: &[u8]) -> Result<(u32, &[u8]), LineFault>
     Ok((number, rest))
 }
 
-/// The code of a failure.
+/// A number of 8 bits.
+pub fn byte_number(tail: &[u8]) -> Result<(u8, &[u8]), LineFault>
+    ensures { Gives (λ x. (x.0, x.1.now)) result (token_at (ANumber 8) tail.now) }
+{
+    let (text, rest) = word(tail).ok_or(MISFIT)?;
+    let number = number::byte_number(text).ok_or(MISFIT)?;
+    Ok((number, rest))
+}
+
+/// A number of at most this.
+pub fn at_most(limit: u32, tail: &[u8]) -> Result<(u32, &[u8]), LineFault>
+    ensures { Gives (λ x. (x.0, x.1.now)) result (token_at (AtMost limit) tail.now) }
+{
+    let (text, rest) = word(tail).ok_or(MISFIT)?;
+    let number = number::at_most(limit, text).ok_or(MISFIT)?;
+    Ok((number, rest))
+}
+
+/// A number of 64 bits with a sign.
+pub fn value(tail: &[u8]) -> Result<(i64, &[u8]), LineFault>
+    ensures { Gives (λ x. (x.0, x.1.now)) result (token_at (ASigned 63) tail.now) }
+{
+    let (text, rest) = word(tail).ok_or(MISFIT)?;
+    let value = number::value(text).ok_or(MISFIT)?;
+    Ok((value, rest))
+}
+
+/// The code of a failure: a number of 32 bits with a sign.
 pub fn code(tail: &[u8]) -> Result<(i32, &[u8]), LineFault>
-    ensures { Gives (λ x. (x.0, x.1.now)) result (token_at ACode tail.now) }
+    ensures { Gives (λ x. (x.0, x.1.now)) result (token_at (ASigned 31) tail.now) }
 {
     let (text, rest) = word(tail).ok_or(MISFIT)?;
     let code = number::code(text).ok_or(MISFIT)?;

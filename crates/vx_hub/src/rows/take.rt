@@ -6,7 +6,9 @@ ghost use Rattle.vx_call.specs.declared.history.Traced.{Traced};
 ghost use Rattle.vx_call.specs.Rows as rows;
 ghost use Rattle.vx_context.specs.Stores.{is_ready};
 ghost use Rattle.vx_context.specs.Stands.{ContextsStand, IsNext};
-ghost use Rattle.vx_bus_store.specs.Stands.{StoresStand, Follows, HavePlaces, AreOfOneHistory};
+ghost use Rattle.vx_bus_store.specs.Stands.{StoresStand, Follows, HavePlaces};
+ghost use Rattle.vx_call.specs.Built.{AreBuilt};
+ghost use Rattle.vx_hub.specs.Stands.{AreOfBuiltHistory};
 ghost use Rattle.vx_hub.specs.Named.{NameContexts};
 
 use vx_call::{Lane, Refusal, Reply, Task};
@@ -34,9 +36,9 @@ pub fn take(
     pass: PassNo,
     lane: Lane,
 ) -> Reply
-    requires one { AreOfOneHistory contexts.old timers.now bus.old }
+    requires one { AreOfBuiltHistory contexts.old timers.now bus.old }
     requires places { HavePlaces contexts.old bus.old }
-    ensures follows { (history : List Traced) → StoresStand contexts.old timers.now bus.old history → NameContexts history → IsNext at history → Follows contexts.new timers.now bus.new history pass (calls.Take lane) result }
+    ensures follows { (history : List Traced) → StoresStand contexts.old timers.now bus.old history → AreBuilt history → NameContexts history → IsNext at history → Follows contexts.new timers.now bus.new history pass (calls.Take lane) result }
     ensures places { HavePlaces contexts.new bus.new }
 {
     if let Some(refusal) = take_refusal(contexts, pass, lane) {
@@ -58,9 +60,9 @@ fn hand_out(
     index: usize,
 ) -> Task
     requires inside { index < length contexts.old.waiting }
-    requires one { AreOfOneHistory contexts.old timers.now bus.old }
+    requires one { AreOfBuiltHistory contexts.old timers.now bus.old }
     requires places { HavePlaces contexts.old bus.old }
-    ensures follows { (history : List Traced) (lane : Lane) → StoresStand contexts.old timers.now bus.old history → NameContexts history → IsNext at history → rows.take_refusal history pass lane ≡ None → position (is_ready contexts.old.pools contexts.old.held lane) contexts.old.waiting ≡ Some index → Follows contexts.new timers.now bus.new history pass (calls.Take lane) (Reply.Task result) }
+    ensures follows { (history : List Traced) (lane : Lane) → StoresStand contexts.old timers.now bus.old history → AreBuilt history → NameContexts history → IsNext at history → rows.take_refusal history pass lane ≡ None → position (is_ready contexts.old.pools contexts.old.held lane) contexts.old.waiting ≡ Some index → Follows contexts.new timers.now bus.new history pass (calls.Take lane) (Reply.Task result) }
     ensures places { HavePlaces contexts.new bus.new }
 {
     let item = contexts.take(index, pass, at);

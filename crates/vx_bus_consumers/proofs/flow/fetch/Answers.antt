@@ -12,11 +12,11 @@ use Rattle.vx_bus_consumers.proofs.flow.fetch.Goals as goal
 pub returns-in-Some-clause-follows : goal.returns-in-Some-clause-follows
 returns-in-Some-clause-follows c = λ history stands is_next.
     follows_refused c.args.contexts.now c.args.timers.now c.args.bus.now history c.args.pass (calls.Fetch c.args.consumer c.args.count) c.in-Some.refusal refl stands
-    (ap (λ refusal. unless_refused refusal replies.Done) (c.in-Some.ensures history stands.built stands.contexts stands.bus))
+    (ap (λ refusal. unless_refused refusal replies.Done) (c.in-Some.ensures history stands.contexts stands.bus))
 
 pub unreachable-requires : goal.unreachable-requires
 unreachable-requires c = not_missing c.args.contexts.now c.args.timers.now c.args.bus.now c.args.pass c.args.consumer c.requires.one
-    (λ history built contexts bus. none_of_first (consumer_refusal history c.args.pass c.args.consumer) (bad_fetch c.args.count) (sym (c.fetch_refusal.ensures history built contexts bus) ∙ c.in_default.is)) (sym c.in-None.ensures)
+    (λ history contexts bus. none_of_first (consumer_refusal history c.args.pass c.args.consumer) (bad_fetch c.args.count) (sym (c.fetch_refusal.ensures history contexts bus) ∙ c.in_default.is)) (sym c.in-None.ensures)
 
 pub unreachable-requires-in-None-home_of : goal.unreachable-requires-in-None-home_of
 unreachable-requires-in-None-home_of c = not_homeless c.args.contexts.now c.args.timers.now c.args.bus.now c.args.consumer c.in-Some-handler.handler.now c.requires.one (sym c.in-Some-handler.ensures) (sym c.in-None-home_of.ensures)
@@ -30,7 +30,7 @@ make_ready-requires c =
 pub returns-clause-follows : goal.returns-clause-follows
 returns-clause-follows c = λ history stands is_next.
     fetches_so c.args.contexts.now c.make_ready.new.contexts c.args.timers.now c.args.bus.now c.fetch.new.self history c.args.at c.args.pass c.args.consumer c.args.count c.held-held.result c.freed_by-freed.result c.in-Some-handler.handler.now c.in-Some-home_of.context stands is_next
-    (sym (c.fetch_refusal.ensures history stands.built stands.contexts stands.bus) ∙ c.in_default.is) (sym c.in-Some-handler.ensures) (sym c.in-Some-home_of.ensures) c.held-held.ensures c.freed_by-freed.ensures c.fetch.ensures c.make_ready.ensures.items
+    (sym (c.fetch_refusal.ensures history stands.contexts stands.bus) ∙ c.in_default.is) (sym c.in-Some-handler.ensures) (sym c.in-Some-home_of.ensures) c.held-held.ensures c.freed_by-freed.ensures c.fetch.ensures c.make_ready.ensures.items
 
 pub returns-clause-places : goal.returns-clause-places
 returns-clause-places c =

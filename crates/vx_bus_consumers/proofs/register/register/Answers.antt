@@ -14,12 +14,12 @@ use Rattle.vx_bus_consumers.proofs.register.register.Goals as goal
 pub returns-in-Some-clause-ok : goal.returns-in-Some-clause-ok
 returns-in-Some-clause-ok c = λ history stands is_next.
     follows_refused c.args.contexts.now c.args.timers.now c.args.bus.now history c.args.pass (calls.Register c.args.context c.args.address c.args.limit) c.in-Some.refusal refl stands
-    (ap (λ refusal. unless_refused refusal (replies.Consumer (next_consumer history))) (c.in-Some.ensures history stands.built stands.contexts))
+    (ap (λ refusal. unless_refused refusal (replies.Consumer (next_consumer history))) (c.in-Some.ensures history stands.contexts))
 
 pub returns-in-Ok-clause-ok : goal.returns-in-Ok-clause-ok
 returns-in-Ok-clause-ok c = λ history stands is_next.
     registers c.args.contexts.now c.args.timers.now c.args.bus.now c.add.new.self history c.args.at c.args.pass c.args.context c.args.address c.args.limit stands is_next
-    (sym (c.register_refusal.ensures history stands.built stands.contexts) ∙ c.in_default.is) c.in-Ok.ensures.added c.in-Ok.ensures.in_turn c.in-Ok.ensures.choices
+    (sym (c.register_refusal.ensures history stands.contexts) ∙ c.in_default.is) c.in-Ok.ensures.added c.in-Ok.ensures.in_turn c.in-Ok.ensures.choices
 
 pub returns-in-Ok-clause-places : goal.returns-in-Ok-clause-places
 returns-in-Ok-clause-places c =

@@ -1,8 +1,7 @@
 use Rattle.std.proofs.Common.{ap, ◌∙◌}
 use Rattle.vx_call.specs.Refusals.{over}
-use Rattle.vx_call.proofs.Built.{holder_open}
-use Rattle.vx_bus_refusals.proofs.Chains.{first, more, skip, last}
+use Rattle.vx_bus_refusals.proofs.Chains.{first, more, last}
 use Rattle.vx_bus_refusals.proofs.refusals.fail_refusal.Goals as goal
 
 pub returns : goal.returns
-returns c = λ history built contexts bus. last (more (skip (more (more (first (c.no_message.ensures history bus)) c.or.ensures (c.not_request.ensures history bus)) c.or-2.ensures (c.not_your_message.ensures history contexts bus)) (holder_open history c.args.pass built)) c.or-3.ensures (c.over.ensures ∙ ap (over 65536) c.len.ensures)) c.or-4.ensures (c.late.ensures history bus)
+returns c = λ history contexts bus. last (more (more (more (more (first (c.no_message.ensures history bus)) c.or.ensures (c.not_request.ensures history bus)) c.or-2.ensures (c.not_your_message.ensures history contexts bus)) c.or-3.ensures (c.holder_closed.ensures history contexts)) c.or-4.ensures (c.over.ensures ∙ ap (over 65536) c.len.ensures)) c.or-5.ensures (c.late.ensures history bus)

@@ -13,7 +13,7 @@ use Rattle.vx_bus_send.proofs.fail.fail.Goals as goal
 pub returns-in-Some-clause-follows : goal.returns-in-Some-clause-follows
 returns-in-Some-clause-follows c = λ history stands is_next.
     follows_refused c.args.contexts.now c.args.timers.now c.args.bus.now history c.args.pass (calls.Fail c.args.message c.args.code c.args.text) c.in-Some.refusal refl stands
-    (ap (λ refusal. unless_refused refusal replies.Done) (c.in-Some.ensures history stands.built stands.contexts stands.bus))
+    (ap (λ refusal. unless_refused refusal replies.Done) (c.in-Some.ensures history stands.contexts stands.bus))
 
 pub returns-clause-follows : goal.returns-clause-follows
 returns-clause-follows c = λ history stands is_next.
@@ -21,5 +21,5 @@ returns-clause-follows c = λ history stands is_next.
     (failed failures.RecipientFailure code c.args.text) in
     follows_settled c.args.contexts.now c.settle.new.contexts c.args.timers.now c.settle.new.timers c.args.bus.now c.settle.new.bus history c.args.at c.args.pass
     (calls.Fail c.args.message c.args.code c.args.text) replies.Done c.args.message (failed failures.RecipientFailure c.args.code c.args.text) stands is_next
-    (ends_fail history c.args.pass c.args.message c.args.code c.args.text stands.built)
-    (ap (λ refusal. unless_refused refusal replies.Done) (sym c.in_default.is ∙ c.fail_refusal.ensures history stands.built stands.contexts stands.bus)) (subst P (to_z-of_z w32 c.args.code c.ranges.code) c.settle.ensures.settled)
+    (ends_fail history c.args.pass c.args.message c.args.code c.args.text)
+    (ap (λ refusal. unless_refused refusal replies.Done) (sym c.in_default.is ∙ c.fail_refusal.ensures history stands.contexts stands.bus)) (subst P (to_z-of_z w32 c.args.code c.ranges.code) c.settle.ensures.settled)

@@ -13,16 +13,16 @@ pub returns-in-Some-clause-ok : goal.returns-in-Some-clause-ok
 returns-in-Some-clause-ok c = λ history stands is_next.
     let call = calls.Publish c.args.address c.args.body c.args.options in
     follows_refused c.args.contexts.now c.args.timers.now c.args.bus.now history c.args.pass call c.in-Some.refusal refl stands
-    (ap (λ refusal. unless_refused refusal (replies.Published (ids_of (accepting history call deeds.Nothing)))) (c.in-Some.ensures history c.args.pass stands.built stands.bus))
+    (ap (λ refusal. unless_refused refusal (replies.Published (ids_of (accepting history call deeds.Nothing)))) (c.in-Some.ensures history stands.contexts stands.bus))
 
 pub publish_on-requires-clause-deep : goal.publish_on-requires-clause-deep
 publish_on-requires-clause-deep c =
-    (send_small c.args.contexts.now c.args.timers.now c.args.bus.now c.args.pass c.args.address c.args.body c.args.options c.requires.one (λ history built bus. sym (c.send_refusal.ensures history c.args.pass built bus) ∙ c.in_default.is)).deep
+    (send_small c.args.contexts.now c.args.timers.now c.args.bus.now c.args.pass c.args.address c.args.body c.args.options c.requires.one (λ history contexts bus. sym (c.send_refusal.ensures history contexts bus) ∙ c.in_default.is)).deep
 
 pub publish_on-requires-clause-pairs : goal.publish_on-requires-clause-pairs
 publish_on-requires-clause-pairs c =
-    (send_small c.args.contexts.now c.args.timers.now c.args.bus.now c.args.pass c.args.address c.args.body c.args.options c.requires.one (λ history built bus. sym (c.send_refusal.ensures history c.args.pass built bus) ∙ c.in_default.is)).pairs
+    (send_small c.args.contexts.now c.args.timers.now c.args.bus.now c.args.pass c.args.address c.args.body c.args.options c.requires.one (λ history contexts bus. sym (c.send_refusal.ensures history contexts bus) ∙ c.in_default.is)).pairs
 
 pub publish_on-requires-clause-bytes : goal.publish_on-requires-clause-bytes
 publish_on-requires-clause-bytes c =
-    (send_small c.args.contexts.now c.args.timers.now c.args.bus.now c.args.pass c.args.address c.args.body c.args.options c.requires.one (λ history built bus. sym (c.send_refusal.ensures history c.args.pass built bus) ∙ c.in_default.is)).bytes
+    (send_small c.args.contexts.now c.args.timers.now c.args.bus.now c.args.pass c.args.address c.args.body c.args.options c.requires.one (λ history contexts bus. sym (c.send_refusal.ensures history contexts bus) ∙ c.in_default.is)).bytes

@@ -15,12 +15,12 @@ use Rattle.vx_bus_send.proofs.reply.reply.Goals as goal
 pub returns-in-Some-clause-ok : goal.returns-in-Some-clause-ok
 returns-in-Some-clause-ok c = λ history stands is_next.
     follows_refused c.args.contexts.now c.args.timers.now c.args.bus.now history c.args.pass (calls.Reply c.args.message c.args.body c.args.options) c.in-Some.refusal refl stands
-    (ap (λ refusal. unless_refused refusal replies.Done) (c.in-Some.ensures history stands.built stands.contexts stands.bus))
+    (ap (λ refusal. unless_refused refusal replies.Done) (c.in-Some.ensures history stands.contexts stands.bus))
 
 pub replied-requires : goal.replied-requires
 replied-requires c =
     (reply_small c.args.contexts.now c.args.timers.now c.args.bus.now c.args.pass c.args.message c.args.body c.args.options c.requires.one
-    (λ history built contexts bus. sym (c.reply_refusal.ensures history built contexts bus) ∙ c.in_default.is)).deep
+    (λ history contexts bus. sym (c.reply_refusal.ensures history contexts bus) ∙ c.in_default.is)).deep
 
 pub returns-in-Ok-clause-ok : goal.returns-in-Ok-clause-ok
 returns-in-Ok-clause-ok c = λ history stands is_next.
@@ -29,5 +29,5 @@ returns-in-Ok-clause-ok c = λ history stands is_next.
     let P : Outcome → Type 0 = Settles c.args.contexts.now c.settle.new.contexts c.args.timers.now c.settle.new.timers c.args.bus.now c.settle.new.bus c.args.at c.args.message in
     follows_settled c.args.contexts.now c.settle.new.contexts c.args.timers.now c.settle.new.timers c.args.bus.now c.settle.new.bus history c.args.at c.args.pass
     (calls.Reply c.args.message c.args.body c.args.options) replies.Done c.args.message (replied history c.args.body c.args.options None) stands is_next
-    (ends_reply history c.args.pass c.args.message c.args.body c.args.options stands.built)
-    (ap (λ refusal. unless_refused refusal replies.Done) (sym c.in_default.is ∙ c.reply_refusal.ensures history stands.built stands.contexts stands.bus)) (subst P outcome c.settle.ensures.settled)
+    (ends_reply history c.args.pass c.args.message c.args.body c.args.options)
+    (ap (λ refusal. unless_refused refusal replies.Done) (sym c.in_default.is ∙ c.reply_refusal.ensures history stands.contexts stands.bus)) (subst P outcome c.settle.ensures.settled)

@@ -16,27 +16,27 @@ use Rattle.vx_bus_send.proofs.reply_request.reply_request.Goals as goal
 pub returns-in-Some-clause-ok : goal.returns-in-Some-clause-ok
 returns-in-Some-clause-ok c = λ history stands is_at.
     follows_refused c.args.contexts.now c.args.timers.now c.args.bus.now history c.args.pass (calls.ReplyRequest c.args.message c.args.context c.args.body c.args.options c.args.timeout) c.in-Some.refusal refl stands
-    (ap (λ refusal. unless_refused refusal (replies.Asked reached.Asker)) (c.in-Some.ensures history stands.built stands.contexts stands.bus))
+    (ap (λ refusal. unless_refused refusal (replies.Asked reached.Asker)) (c.in-Some.ensures history stands.contexts stands.bus))
 
 pub overflow_add-due : goal.overflow_add-due
 overflow_add-due c =
     omega (
       arith,
       again_short c.args.contexts.now c.args.timers.now c.args.bus.now c.args.pass c.args.message c.args.context c.args.body c.args.options c.args.timeout c.requires.one
-          (λ history built contexts bus. sym (c.reply_request_refusal.ensures history built contexts bus) ∙ c.in_default.is),
+          (λ history contexts bus. sym (c.reply_request_refusal.ensures history contexts bus) ∙ c.in_default.is),
     )
 
 pub prepare_reply-requires-clause-deep : goal.prepare_reply-requires-clause-deep
 prepare_reply-requires-clause-deep c =
     (again_small c.args.contexts.now c.args.timers.now c.args.bus.now c.args.pass c.args.message c.args.context c.args.body c.args.options c.args.timeout c.requires.one
-    (λ history built contexts bus. sym (c.reply_request_refusal.ensures history built contexts bus) ∙ c.in_default.is)).deep
+    (λ history contexts bus. sym (c.reply_request_refusal.ensures history contexts bus) ∙ c.in_default.is)).deep
 
 pub returns-in-Ok-clause-ok : goal.returns-in-Ok-clause-ok
 returns-in-Ok-clause-ok c = λ history stands is_at.
     asks_again c.prepare_reply.new.contexts c.settle.new.contexts c.args.timers.now c.prepare_reply.new.timers c.settle.new.timers c.args.bus.now c.prepare_reply.new.bus c.settle.new.bus c.open.new.self
-    history c.args.at c.args.now c.args.pass c.args.message c.args.context c.args.body c.args.options c.args.timeout c.in-Ok.outcome stands.bus (c.prepare_reply.ensures.keeps history c.args.timers.now stands) is_at
-    (sym (c.reply_request_refusal.ensures history stands.built stands.contexts stands.bus) ∙ c.in_default.is)
-    c.in-Ok.ensures.outcome c.in-Ok.ensures.timer c.settle.ensures.settled c.open.ensures
+    history c.args.at c.args.now c.args.pass c.args.message c.args.context c.args.body c.args.options c.args.timeout c.in-Ok.outcome c.asker-home.result stands.bus (c.prepare_reply.ensures.keeps history c.args.timers.now stands) is_at
+    (sym (c.reply_request_refusal.ensures history stands.contexts stands.bus) ∙ c.in_default.is)
+    c.in-Ok.ensures.outcome c.in-Ok.ensures.timer c.settle.ensures.settled c.open.ensures c.asker-home.ensures
 
 pub returns-in-Ok-clause-places : goal.returns-in-Ok-clause-places
 returns-in-Ok-clause-places c =

@@ -32,10 +32,10 @@ pub returns-in_ok-prepare_request-in-Consumer-clause-ok :
     goal.returns-in_ok-prepare_request-in-Consumer-clause-ok
 returns-in_ok-prepare_request-in-Consumer-clause-ok c = λ history pass now timeout stands is_at is_due accepted.
     asks c.prepare_request.new.contexts c.pass_on.new.contexts c.args.timers.now c.prepare_request.new.timers c.args.bus.now c.prepare_request.new.bus c.pass_on.new.bus c.open.new.self
-    history c.args.at now c.args.due pass c.args.context c.args.address.now c.args.body.now c.args.options.now timeout c.in_ok-passage.passage (reached.Consumer c.in-Consumer.consumer) c.in-Consumer.consumer
+    history c.args.at now c.args.due pass c.args.context c.args.address.now c.args.body.now c.args.options.now timeout c.in_ok-passage.passage (reached.Consumer c.in-Consumer.consumer) c.in-Consumer.consumer c.home-home.result
     stands.bus (c.prepare_request.ensures.keeps history c.args.timers.now stands) is_at c.requires.small is_due accepted
     (record { passes = c.in_ok-passage.ensures; goes = sym c.in-Consumer.is ∙ c.destination-to.ensures }) refl
-    c.in_ok-prepare_request-in-Consumer.ensures.timer c.pass_on.ensures.passes c.open.ensures
+    c.in_ok-prepare_request-in-Consumer.ensures.timer c.pass_on.ensures.passes c.open.ensures c.home-home.ensures
 
 pub returns-in_ok-prepare_request-in-Consumer-clause-places :
     goal.returns-in_ok-prepare_request-in-Consumer-clause-places

@@ -11,16 +11,16 @@ pub returns-in-Some-clause-ok : goal.returns-in-Some-clause-ok
 returns-in-Some-clause-ok c = λ history stands is_next.
     let call = calls.Send c.args.address c.args.body c.args.options in
     follows_refused c.args.contexts.now c.args.timers.now c.args.bus.now history c.args.pass call c.in-Some.refusal refl stands
-    (ap (λ refusal. unless_refused refusal (replies.Sent (destination history call c.args.address))) (c.in-Some.ensures history c.args.pass stands.built stands.bus))
+    (ap (λ refusal. unless_refused refusal (replies.Sent (destination history call c.args.address))) (c.in-Some.ensures history stands.contexts stands.bus))
 
 pub send_on-requires-clause-deep : goal.send_on-requires-clause-deep
 send_on-requires-clause-deep c =
-    (send_small c.args.contexts.now c.args.timers.now c.args.bus.now c.args.pass c.args.address c.args.body c.args.options c.requires.one (λ history built bus. sym (c.send_refusal.ensures history c.args.pass built bus) ∙ c.in_default.is)).deep
+    (send_small c.args.contexts.now c.args.timers.now c.args.bus.now c.args.pass c.args.address c.args.body c.args.options c.requires.one (λ history contexts bus. sym (c.send_refusal.ensures history contexts bus) ∙ c.in_default.is)).deep
 
 pub send_on-requires-clause-pairs : goal.send_on-requires-clause-pairs
 send_on-requires-clause-pairs c =
-    (send_small c.args.contexts.now c.args.timers.now c.args.bus.now c.args.pass c.args.address c.args.body c.args.options c.requires.one (λ history built bus. sym (c.send_refusal.ensures history c.args.pass built bus) ∙ c.in_default.is)).pairs
+    (send_small c.args.contexts.now c.args.timers.now c.args.bus.now c.args.pass c.args.address c.args.body c.args.options c.requires.one (λ history contexts bus. sym (c.send_refusal.ensures history contexts bus) ∙ c.in_default.is)).pairs
 
 pub send_on-requires-clause-bytes : goal.send_on-requires-clause-bytes
 send_on-requires-clause-bytes c =
-    (send_small c.args.contexts.now c.args.timers.now c.args.bus.now c.args.pass c.args.address c.args.body c.args.options c.requires.one (λ history built bus. sym (c.send_refusal.ensures history c.args.pass built bus) ∙ c.in_default.is)).bytes
+    (send_small c.args.contexts.now c.args.timers.now c.args.bus.now c.args.pass c.args.address c.args.body c.args.options c.requires.one (λ history contexts bus. sym (c.send_refusal.ensures history contexts bus) ∙ c.in_default.is)).bytes

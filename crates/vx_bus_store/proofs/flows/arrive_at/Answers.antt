@@ -1,6 +1,6 @@
 use Rattle.std.proofs.Common.{arith, length, ◌<◌}
 use Rattle.vx_bus_store.specs.Stores.{changed_at, arrived}
-use Rattle.vx_bus_store.proofs.Changes.{changed_more}
+use Rattle.vx_context.proofs.Changes.{changed_more}
 use Rattle.vx_bus_store.proofs.flows.arrive_at.Goals as goal
 use Rattle.vx_bus_store.proofs.flows.arrive_at.Goals.{then-is, else-is}
 

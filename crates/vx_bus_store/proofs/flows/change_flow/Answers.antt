@@ -1,7 +1,7 @@
 use Rattle.std.proofs.Common.{arith, length, ◌<◌}
 use Rattle.vx_bus_store.specs.Stores.{changed}
 use Rattle.vx_bus_store.specs.FlowChanges.{flow_after}
-use Rattle.vx_bus_store.proofs.Changes.{changed_more}
+use Rattle.vx_context.proofs.Changes.{changed_more}
 use Rattle.vx_bus_store.proofs.flows.change_flow.Goals as goal
 use Rattle.vx_bus_store.proofs.flows.change_flow.Goals.{then-eq, else-eq}
 

@@ -1,6 +1,6 @@
 use Rattle.vx_bus_store.specs.Stores.{changed}
 use Rattle.vx_bus_store.specs.FlowChanges.{flow_after}
-use Rattle.vx_bus_store.proofs.Changes.{IsChanged}
+use Rattle.vx_context.proofs.Changes.{IsChanged}
 use Rattle.vx_bus_store.proofs.flows.change_flow.Given as goal
 
 abbrev pub invariant-loop-handler : goal.invariant-loop-handler

@@ -10,7 +10,7 @@ use Rattle.vx_core_bus.proofs.interceptors.add_codec.Goals as goal
 pub returns-in-Some-clause-ok : goal.returns-in-Some-clause-ok
 returns-in-Some-clause-ok c = λ history stands is_next.
     follows_refused c.args.contexts.now c.args.timers.now c.args.bus.now history c.args.pass (calls.AddCodec c.args.name c.args.form) c.in-Some.refusal refl stands
-    (ap (λ refusal. unless_refused refusal (replies.Codec (next_codec history))) (c.in-Some.ensures.refusal history c.args.pass stands.built stands.bus))
+    (ap (λ refusal. unless_refused refusal (replies.Codec (next_codec history))) (c.in-Some.ensures.refusal history stands.contexts stands.bus))
 
 pub add_codec-requires : goal.add_codec-requires
 add_codec-requires c = c.add_codec_refusal.ensures.free c.in_default.is
@@ -18,4 +18,4 @@ add_codec-requires c = c.add_codec_refusal.ensures.free c.in_default.is
 pub returns-in-Ok-clause-ok : goal.returns-in-Ok-clause-ok
 returns-in-Ok-clause-ok c = λ history stands is_next.
     adds_codec c.args.contexts.now c.args.timers.now c.args.bus.now c.add_codec.new.self history c.args.at c.args.pass c.args.name c.args.form stands is_next
-    (sym (c.add_codec_refusal.ensures.refusal history c.args.pass stands.built stands.bus) ∙ c.in_default.is) c.in-Ok.ensures.added
+    (sym (c.add_codec_refusal.ensures.refusal history stands.contexts stands.bus) ∙ c.in_default.is) c.in-Ok.ensures.added

@@ -2,7 +2,7 @@ use Rattle.std.proofs.Common.{refl, ap, sym, ◌∙◌}
 use Rattle.std.specs.Option.{option_or}
 use Rattle.vx_call.specs.declared.call.Call.TheVariants as calls
 use Rattle.vx_call.specs.declared.reply.Reply.TheVariants as replies
-use Rattle.vx_call.specs.Refusals.{unless_refused, holder_closed}
+use Rattle.vx_call.specs.Refusals.{unless_refused, no_rule}
 use Rattle.vx_bus_store.proofs.Frames.{follows_refused}
 use Rattle.vx_core_bus.proofs.RowInterceptors.{removes_rule}
 use Rattle.vx_core_bus.proofs.interceptors.remove_rule.Goals as goal
@@ -10,9 +10,9 @@ use Rattle.vx_core_bus.proofs.interceptors.remove_rule.Goals as goal
 pub returns-in-Some-clause-follows : goal.returns-in-Some-clause-follows
 returns-in-Some-clause-follows c = λ history stands is_next.
     follows_refused c.args.contexts.now c.args.timers.now c.args.bus.now history c.args.pass (calls.RemoveRule c.args.rule) c.in-Some.refusal refl stands
-    (ap (λ refusal. unless_refused (option_or refusal (holder_closed history c.args.pass)) replies.Done) (c.in-Some.ensures history stands.bus))
+    (ap (λ refusal. unless_refused refusal replies.Done) (sym c.in-Some.is ∙ c.or.ensures ∙ ap (λ o. option_or o c.holder_closed.result) (c.no_rule.ensures history stands.bus) ∙ ap (option_or (no_rule history c.args.rule)) (c.holder_closed.ensures history stands.contexts)))
 
 pub returns-clause-follows : goal.returns-clause-follows
 returns-clause-follows c = λ history stands is_next.
     removes_rule c.args.contexts.now c.args.timers.now c.args.bus.now c.remove_rule.new.self history c.args.pass c.args.rule stands
-    (sym (c.no_rule.ensures history stands.bus) ∙ c.in_default.is) c.remove_rule.ensures
+    (sym (c.or.ensures ∙ ap (λ o. option_or o c.holder_closed.result) (c.no_rule.ensures history stands.bus) ∙ ap (option_or (no_rule history c.args.rule)) (c.holder_closed.ensures history stands.contexts)) ∙ c.in_default.is) c.remove_rule.ensures

@@ -33,16 +33,16 @@ returns-in-NewContext-clause-ok c =
     PartsFollow c.args.passes.now c.args.now.now c.new_context.new.contexts c.args.timers.now c.args.bus.now history c.args.pass call reply) in
     subst P (sym c.in-NewContext.is) (IfOk-weaker c.new_context.result _ _
     (λ reply row history stands is_next.
-    keeping_time c.args.passes.now c.args.now.now c.new_context.new.contexts c.args.timers.now c.args.bus.now history c.args.pass calls.NewContext reply refl stands.passes stands.now stands.named
-    (leaving_bus c.new_context.new.contexts c.args.timers.now c.args.bus.now history c.args.pass calls.NewContext reply refl stands.stores.built stands.stores.timers stands.stores.bus
-    (row history stands.stores.contexts stands.stores.built stands.named is_next)))
+    keeping_time c.args.passes.now c.args.now.now c.new_context.new.contexts c.args.timers.now c.args.bus.now history c.args.pass calls.NewContext reply refl refl stands.passes stands.now stands.named stands.built
+    (leaving_bus c.new_context.new.contexts c.args.timers.now c.args.bus.now history c.args.pass calls.NewContext reply refl stands.built stands.stores.stored stands.stores.timers stands.stores.bus
+    (row history stands.stores.contexts stands.built stands.named is_next)))
     c.new_context.ensures.ok)
 
 pub returns-in-Advance-clause-ok : goal.returns-in-Advance-clause-ok
 returns-in-Advance-clause-ok c = λ history stands is_next.
     let P : Call → Type 0 = λ call. PartsFollow c.args.passes.now c.advance.new.now c.advance.new.contexts c.advance.new.timers c.advance.new.bus history c.args.pass call c.advance.result in
     subst P (sym c.in-Advance.is) (tells_time c.args.passes.now c.args.now.now c.advance.new.now c.in-Advance.moment c.advance.new.contexts c.advance.new.timers c.advance.new.bus history c.args.pass c.advance.result
-    stands.passes stands.now c.advance.ensures.now stands.named (c.advance.ensures.follows history c.args.pass stands.stores (record { next = is_next; now = stands.now })))
+    stands.passes stands.now c.advance.ensures.now stands.named stands.built (c.advance.ensures.follows history c.args.pass stands.stores (record { next = is_next; now = stands.now })))
 
 pub returns-in_default : goal.returns-in_default
 returns-in_default c =
@@ -50,10 +50,10 @@ returns-in_default c =
     record {
       ok = IfOk-weaker c.step.result _ _
           (λ reply row history stands is_next.
-          keeping_time c.args.passes.now c.args.now.now c.step.new.contexts c.step.new.timers c.step.new.bus history c.args.pass c.args.call reply (bus_keeps_time c.args.call own) stands.passes stands.now stands.named
+          keeping_time c.args.passes.now c.args.now.now c.step.new.contexts c.step.new.timers c.step.new.bus history c.args.pass c.args.call reply (bus_keeps_time c.args.call own) c.requires.built stands.passes stands.now stands.named stands.built
           (row history stands.stores (record { next = is_next; now = c.ms-moment.ensures.same ∙ stands.now })))
           c.step.ensures.ok;
-      err = on_err_weaker c.step.result (λ keeps history stands. record { passes = stands.passes; now = stands.now; named = stands.named; stores = keeps history stands.stores }) c.step.ensures.err;
+      err = on_err_weaker c.step.result (λ keeps history stands. record { passes = stands.passes; now = stands.now; named = stands.named; built = stands.built; stores = keeps history stands.stores }) c.step.ensures.err;
       back = c.step.ensures.back;
       sure = c.step.ensures.sure;
       places = c.step.ensures.places;

@@ -1,7 +1,7 @@
 use Rattle.std.proofs.Common.{◌≡◌, ◌∙◌, sym, ap, true, false, ◌||◌}
 use Rattle.std.specs.Str.{bytes_eq}
 use Rattle.vx_line.specs.Grammar.{option_name}
-use Rattle.vx_line.specs.Reasons.{has_option}
+use Rattle.vx_line.specs.Tables.{has_option}
 use Rattle.vx_line.proofs.Runs.{named_more, named_none}
 use Rattle.vx_line.proofs.options.has_option.Goals as goal
 

@@ -1,5 +1,5 @@
 use Rattle.std.proofs.Common.{◌≡◌, length}
-use Rattle.vx_line.specs.Reasons.{has_option}
+use Rattle.vx_line.specs.Tables.{has_option}
 use Rattle.vx_line.proofs.options.has_option.Given as goal
 
 abbrev pub invariant-loop-option : goal.invariant-loop-option

@@ -3,12 +3,12 @@ use Rattle.std.proofs.lemmas.Result.{err_from_is_err_and}
 use Rattle.std.specs.Vec.Iter.{into_iter_items}
 use Rattle.vx_hub.specs.Stands.{StandsFor}
 use Rattle.vx_line.specs.declared.command.Command.{Command}
-use Rattle.vx_script.specs.Lines.{AreBuiltCalls}
+use Rattle.vx_script.specs.Lines.{AreMade}
 use Rattle.vx_script.proofs.Histories.{Goes, begins_all, cut_off, one_more}
 use Rattle.vx_script.proofs.playing.make_all.Goals as goal
 
 pub make_one-requires : goal.make_one-requires
-make_one-requires g c = (subst AreBuiltCalls c.in-Some.ensures.steps.0 c.loop-command.invariant.built).0
+make_one-requires g c = (subst AreMade c.in-Some.ensures.steps.0 c.loop-command.invariant.built).0
 
 pub returns-in_err-make_one-clause-err : goal.returns-in_err-make_one-clause-err
 returns-in_err-make_one-clause-err g c =
@@ -28,7 +28,7 @@ loop-command-preserved g c =
     record {
       goes = one_more _ _ _ _ _ c.loop-command.at c.in-Some.command (into_iter_items c.next.new.self) c.args.commands.items goes few (c.in_ok-make_one.ensures.goes goes.history goes.stands goes.there.0)
           (c.in_ok-make_one.ensures.written goes.history goes.stands goes.there.0);
-      built = (subst AreBuiltCalls c.in-Some.ensures.steps.0 c.loop-command.invariant.built).1;
+      built = (subst AreMade c.in-Some.ensures.steps.0 c.loop-command.invariant.built).1;
       few = omega (arith, c.in-Some.ensures.steps.1, c.loop-command.invariant.few);
       later = omega arith;
     }
@@ -38,7 +38,7 @@ loop-command-init g c =
     let all = c.into_iter-command-iterator.ensures.into_iter_gives in
     record {
       goes = begins_all (StandsFor c.args.hub.now) (g.K.Sink.held c.args.sink.now) _ c.args.commands.items c.requires.new all.0 c.requires.there;
-      built = subst AreBuiltCalls (sym all.0) c.requires.built;
+      built = subst AreMade (sym all.0) c.requires.built;
       few = omega (arith, all.1, c.requires.few);
       later = omega arith;
     }

@@ -21,10 +21,10 @@ small c = rw (← c.entries.ensures) c.if-entries-ge-LIMIT.false
 
 row : (c : goal.After-add) → Rows (old c) (new c) c.args.pass (calls.Finish c.args.end) (finished c.finish-ended.result)
 row c = λ history stands is_next.
-    keeping_time c.self.inside.passes c.self.inside.now c.finish-ended.new.contexts c.self.inside.timers c.self.inside.bus history c.args.pass (calls.Finish c.args.end) (finished c.finish-ended.result) refl
-    stands.passes stands.now stands.named
+    keeping_time c.self.inside.passes c.self.inside.now c.finish-ended.new.contexts c.self.inside.timers c.self.inside.bus history c.args.pass (calls.Finish c.args.end) (finished c.finish-ended.result) refl refl
+    stands.passes stands.now stands.named stands.built
     (leaving_bus c.finish-ended.new.contexts c.self.inside.timers c.self.inside.bus history c.args.pass (calls.Finish c.args.end) (finished c.finish-ended.result) refl
-    stands.stores.built stands.stores.timers stands.stores.bus (c.finish-ended.ensures.follows history stands.stores.contexts stands.stores.built))
+    stands.built stands.stores.stored stands.stores.timers stands.stores.bus (c.finish-ended.ensures.follows history stands.stores.contexts stands.built))
 
 pub invariant_of-self : goal.invariant_of-self
 invariant_of-self c = (

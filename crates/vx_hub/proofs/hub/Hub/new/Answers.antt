@@ -1,7 +1,8 @@
+use Rattle.vx_call.specs.History.{lasting}
 use Rattle.std.proofs.Common.{◌+◌, [], ap, sym, ◌∙◌, arith, max}
 use Rattle.std.specs.Prelude.{map, filter, length, find, fold}
 use Rattle.std.specs.List.{count_by}
-use Rattle.std.specs.Option.{option_map}
+use Rattle.std.specs.Option.{option_map, option_or}
 use Rattle.std.specs.Str.{bytes_eq}
 use Rattle.vx_message.specs.declared.Given.{Given}
 use Rattle.vx_data.specs.Ids.{same_message}
@@ -13,16 +14,17 @@ use Rattle.vx_call.specs.Given.{given_kind}
 use Rattle.vx_call.specs.Pools.{pool_kind}
 use Rattle.vx_call.specs.Requests.{open_kind, by_due}
 use Rattle.vx_call.specs.Time.{moment_kind}
-use Rattle.vx_call.specs.Settled.{Settled, settled_kind}
+use Rattle.vx_call.specs.Settled.{Settled, settled_kind, dropped_kind}
 use Rattle.vx_call.specs.Codecs.{codec_kind}
 use Rattle.vx_call.specs.Rules.{rule_kind}
 use Rattle.vx_call.specs.Items.{item_kind, task_kind}
 use Rattle.vx_call.specs.Held.{held_kind}
 use Rattle.vx_call.specs.Rows.{ids_of}
-use Rattle.vx_call.proofs.Built.{settled_by_outcome}
+use Rattle.vx_call.proofs.Dropped.{ended_among, dropped_among}
+use Rattle.vx_call.specs.Closings.{Closing, closing_kind, is_closing_of}
 use Rattle.vx_call.proofs.Lasting.{lasting_none}
 use Rattle.vx_call.proofs.Legal.{legal_none}
-use Rattle.vx_context.specs.Stores.{ContextStore, item_of}
+use Rattle.vx_context.specs.Stores.{ContextStore, closed_in, item_of}
 use Rattle.vx_bus_store.specs.Stores.{handler_of, row_of, timer_of}
 use Rattle.vx_hub.specs.Stores.{HubStore}
 use Rattle.vx_hub.specs.Stands.{HubStands}
@@ -37,10 +39,12 @@ empty c = record {
     passes = ap (λ ps. length ps + 1) (sym (lasting_none pass_kind));
     now = c.at.ensures ∙ ap (fold max 0) (sym (lasting_none moment_kind));
     named = none_named;
+    built = tt;
     stores = record {
-      built = tt;
+      stored = tt;
       contexts = record {
         made = ap (λ (s : ContextStore). s.made) c.new-2.ensures ∙ sym (lasting_none context_kind);
+        closings = λ id. ap (λ (s : ContextStore). closed_in id s.closings) c.new-2.ensures ∙ sym (ap (λ all. option_map (λ (closing : Closing). closing.at) (find (is_closing_of id) all)) (lasting_none closing_kind));
         held = ap (λ (s : ContextStore). s.held) c.new-2.ensures ∙ sym (lasting_none held_kind);
         pools = ap (λ (s : ContextStore). s.pools) c.new-2.ensures ∙ sym (lasting_none pool_kind);
         waiting = ap (λ (s : ContextStore). s.waiting) c.new-2.ensures ∙ ap (map (item_of [])) (sym (lasting_none item_kind));
@@ -52,7 +56,7 @@ empty c = record {
         choices = λ a. c.new-4.ensures.choices a ∙ ap (count_by (bytes_eq a)) (sym (lasting_none choice_kind));
         tasks = c.new-4.ensures.tasks ∙ sym (lasting_none task_kind);
         opened = c.new-4.ensures.requests ∙ ap (map row_of) (sym (lasting_none open_kind));
-        ended = λ id. c.new-4.ensures.ended id ∙ ap (λ ss. option_map (λ (s : Settled). s.at) (find (λ (s : Settled). same_message id s.request) ss)) (sym (lasting_none settled_kind)) ∙ sym (settled_by_outcome [] id tt);
+        ended = λ id. c.new-4.ensures.ended id ∙ sym (ap (λ all. option_or (ended_among id all) (dropped_among id (lasting dropped_kind []))) (lasting_none settled_kind) ∙ ap (dropped_among id) (lasting_none dropped_kind));
         given = λ id. c.new-4.ensures.given id ∙ ap (λ gs. find (λ (g : Given). same_message id g.id) gs) (sym (lasting_none given_kind));
         codecs = c.new-4.ensures.codecs ∙ sym (lasting_none codec_kind);
         rules = c.new-4.ensures.rules ∙ sym (lasting_none rule_kind);

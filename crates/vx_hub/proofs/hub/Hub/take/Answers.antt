@@ -5,11 +5,11 @@ use Rattle.vx_hub.specs.Counts.{one_more, with_entry}
 use Rattle.vx_hub.specs.Stores.{HubStore}
 use Rattle.vx_hub.specs.Stands.{Meets}
 use Rattle.vx_hub.proofs.Counting.{take_counted}
-use Rattle.vx_hub.proofs.Calls.{Rows, keeping_time, meets, of_history_more, of_one_history}
+use Rattle.vx_hub.proofs.Calls.{Rows, keeping_time, meets, of_history_more, of_built_history}
 use Rattle.vx_hub.proofs.hub.Hub.take.Goals as goal
 
 pub take-reply-requires-clause-one : goal.take-reply-requires-clause-one
-take-reply-requires-clause-one c = of_one_history (record { counts = c.self.inside.counts; passes = c.self.inside.passes; now = c.self.inside.now; contexts = c.self.inside.contexts; timers = c.self.inside.timers; bus = c.self.inside.bus }) c.self.invariant.0
+take-reply-requires-clause-one c = of_built_history (record { counts = c.self.inside.counts; passes = c.self.inside.passes; now = c.self.inside.now; contexts = c.self.inside.contexts; timers = c.self.inside.timers; bus = c.self.inside.bus }) c.self.invariant.0
 
 abbrev old : goal.After-add → HubStore
 old c = record { counts = c.self.inside.counts; passes = c.self.inside.passes; now = c.self.inside.now; contexts = c.self.inside.contexts; timers = c.self.inside.timers; bus = c.self.inside.bus }
@@ -25,8 +25,8 @@ small c = rw (← c.entries-at.ensures) c.if-at-ge-LIMIT.false
 
 row : (c : goal.After-add) → Rows (old c) (new c) c.args.pass (calls.Take c.args.lane) c.take-reply.result
 row c = λ history stands is_next.
-    keeping_time c.self.inside.passes c.self.inside.now c.take-reply.new.contexts c.self.inside.timers c.take-reply.new.bus history c.args.pass (calls.Take c.args.lane) c.take-reply.result refl
-    stands.passes stands.now stands.named (c.take-reply.ensures.follows history stands.stores stands.named (c.entries-at.ensures ∙ is_next))
+    keeping_time c.self.inside.passes c.self.inside.now c.take-reply.new.contexts c.self.inside.timers c.take-reply.new.bus history c.args.pass (calls.Take c.args.lane) c.take-reply.result refl refl
+    stands.passes stands.now stands.named stands.built (c.take-reply.ensures.follows history stands.stores stands.built stands.named (c.entries-at.ensures ∙ is_next))
 
 pub invariant_of-self : goal.invariant_of-self
 invariant_of-self c = (of_history_more (old c) (new c) c.args.pass (calls.Take c.args.lane) c.take-reply.result (more c) (row c) c.self.invariant.0, c.take-reply.ensures.places)

@@ -12,6 +12,6 @@ returns-in-None-clause-advanced c = λ history stands is_next.
 pub loop-place-preserved : goal.loop-place-preserved
 loop-place-preserved c = (
   λ history stands is_next. more_advanced c.args.contexts.now c.loop-place.contexts c.time_out.new.contexts c.loop-place.timers c.due.new.self c.args.bus.now c.loop-place.bus c.time_out.new.bus history c.args.now c.args.at
-      c.loop-place.place c.in-Some.field-0-0 c.in-Some.id stands.contexts.made stands.built is_next (c.loop-place.invariant.0 history stands is_next) (c.in-Some.ensures.fires) c.time_out.ensures.ends,
+      c.loop-place.place c.in-Some.field-0-0 c.in-Some.id stands.contexts.made stands.stored is_next (c.loop-place.invariant.0 history stands is_next) (c.in-Some.ensures.fires) c.time_out.ensures.ends,
   c.time_out.ensures.places,
 )

@@ -14,4 +14,4 @@ returns-in-Some-clause-ok c = λ history stands built named is_next. record {
 
 pub returns-in-Ok-clause-ok : goal.returns-in-Ok-clause-ok
 returns-in-Ok-clause-ok c = λ history stands built named is_next.
-    makes_context c.args.contexts.now c.add.new.self history c.args.at c.args.pass stands built named is_next (sym (c.already_holding.ensures history stands) ∙ c.in_default.is) c.in-Ok.ensures.ok
+    makes_context c.args.contexts.now c.add.new.self history c.args.at c.args.pass stands built named is_next (sym (c.already_holding.ensures history stands) ∙ c.in_default.is) c.in-Ok.ensures.ok c.add.ensures.closed

@@ -8,6 +8,6 @@ take-requires c = record {
 }
 
 pub returns-clause-follows : goal.returns-clause-follows
-returns-clause-follows c = λ history lane stands named is_next free place.
+returns-clause-follows c = λ history lane stands built named is_next free place.
     takes_task c.args.contexts.now c.take-item.new.self c.args.timers.now c.args.bus.now c.take.new.self history c.args.at c.args.pass lane c.args.index c.take-item.result c.take.result
-    stands named is_next free place c.take-item.ensures.item c.take-item.ensures.taken c.take.ensures.task c.take.ensures.taken c.take.ensures.given
+    stands built named is_next free place c.take-item.ensures.item c.take-item.ensures.taken c.take.ensures.task c.take.ensures.taken c.take.ensures.given

@@ -1,0 +1,5 @@
+pub mod Tellings
+pub mod Moved
+pub mod RowMoving
+pub mod RowUndeploy
+pub mod Refused

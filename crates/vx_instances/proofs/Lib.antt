@@ -1,0 +1,5 @@
+pub mod Places
+pub mod Maps
+pub mod Rows
+pub mod Deploys
+pub mod Handing

@@ -1,0 +1,16 @@
+pub mod Lists
+pub mod Bridge
+pub mod Facts
+pub mod Left
+pub mod Opens
+pub mod Parts
+pub mod RowStill
+pub mod RowDeploy
+pub mod Asked
+pub mod RowEnds
+pub mod RowComing
+pub mod RowClose
+pub mod Said
+pub mod Refuses
+pub mod Begins
+pub mod Results

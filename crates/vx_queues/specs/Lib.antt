@@ -1,0 +1,4 @@
+pub mod Order
+pub mod Stores
+pub mod Lanes
+pub mod Leaving
