@@ -6,6 +6,7 @@ ghost use Rattle.vx_hub.specs.Looks.{totals_of, summary_line};
 
 use crate::hub::Hub;
 use vx_data::NoMemory;
+use vx_verticle::Verticle;
 
 /// How much was done in a history. A refused call counts for none of them.
 #[derive(Clone, Copy, PartialEq, Eq)]
@@ -41,7 +42,7 @@ impl Totals {
     }
 }
 
-impl Hub {
+impl<V: Verticle> Hub<V> {
     /// How much was done in the history.
     pub fn totals(&self) -> Totals
         ensures { (history : List Traced) → StandsFor self.entry.now history → result ≡ totals_of history }
