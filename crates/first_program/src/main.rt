@@ -5,8 +5,7 @@ use std::alloc::Global;
 use std::io;
 use vx_call::{Call, End, Lane, Options, Reply, Task, To, Unmade};
 use vx_data::{Body, BodyView, ContextId, PassNo, Text};
-use vx_hub::{Back, Hub, Taken};
-use vx_kinds::HostVerticle;
+use vx_hub::Hub;
 
 /// The one caller.
 const PASS: PassNo = PassNo(0);
@@ -28,7 +27,7 @@ fn is_made(answer: Result<Reply, Unmade>) -> bool {
 }
 
 /// Makes a context with a consumer, and answers the context.
-fn set_up(hub: &mut Hub<HostVerticle>) -> Option<ContextId> {
+fn set_up(hub: &mut Hub) -> Option<ContextId> {
     let context = context_in(hub.step(PASS, Call::NewContext))?;
     let register = Call::Register {
         context,
@@ -39,7 +38,7 @@ fn set_up(hub: &mut Hub<HostVerticle>) -> Option<ContextId> {
 }
 
 /// Sends a number to the consumer: whether it was sent there.
-fn send(hub: &mut Hub<HostVerticle>, alloc: Global, number: i64) -> bool {
+fn send(hub: &mut Hub, alloc: Global, number: i64) -> bool {
     let send = Call::Send {
         address: Text::constant("news"),
         body: Body::int(number),
@@ -65,22 +64,14 @@ fn handler(reply: Reply) -> Option<i64> {
 }
 
 /// Takes the next task of the context, runs its handler, and ends the task, so that the next handler may run.
-fn run_once(hub: &mut Hub<HostVerticle>, context: ContextId) -> Option<i64> {
-    let Taken { reply, verticle } = hub.take(PASS, Lane::Own(context));
-    let came = handler(reply);
-    if hub.gave_verticle(PASS) != verticle.is_some() {
-        return None;
-    }
-    let back = Back {
-        verticle,
-        end: End::Done,
-    };
-    hub.finish(PASS, back).ok()?;
+fn run_once(hub: &mut Hub, context: ContextId) -> Option<i64> {
+    let came = handler(hub.take(PASS, Lane::Own(context)));
+    hub.finish(PASS, End::Done).ok()?;
     came
 }
 
 /// Sends a number, and answers the one that the handler got.
-fn exchange(hub: &mut Hub<HostVerticle>, alloc: Global, number: i64) -> Option<i64> {
+fn exchange(hub: &mut Hub, alloc: Global, number: i64) -> Option<i64> {
     let context = set_up(hub)?;
     if send(hub, alloc, number) {
         run_once(hub, context)
@@ -91,7 +82,7 @@ fn exchange(hub: &mut Hub<HostVerticle>, alloc: Global, number: i64) -> Option<i
 
 fn main(rt: HostRuntime) -> io::Result<()> {
     let came = {
-        let mut hub: Hub<HostVerticle> = Hub::new(rt.alloc());
+        let mut hub = Hub::new(rt.alloc());
         exchange(&mut hub, rt.alloc(), 7)
     };
     match came {

@@ -22,7 +22,7 @@ use Rattle.vx_call.specs.Items.{outcome_tasks}
 use Rattle.vx_call.specs.Passes.{pass_made, passes}
 use Rattle.vx_call.specs.Time.{moment_kind, moment_made, now}
 use Rattle.vx_call.specs.Refusals.{unless_refused, refused_if, is_spent, shut}
-use Rattle.vx_call.specs.Machine.{row, answer, MayFollow}
+use Rattle.vx_call.specs.Machine.{row, answer}
 use Rattle.vx_call.specs.Plain.{is_plain}
 use Rattle.vx_call.proofs.Stored.{stored_more}
 use Rattle.vx_call.proofs.KeepsOpen.{KeepsOpen}
@@ -39,7 +39,6 @@ use Rattle.vx_bus_store.specs.Stands.{Follows, TimersStand, BusStands, AreOfOneH
 use Rattle.vx_bus_store.proofs.Frames.{LeavesBus, consumer_kept, contexts_left, timers_left, numbers_left, bus_left}
 use Rattle.vx_bus_store.proofs.KeptRequests.{request_kept}
 use Rattle.vx_bus_store.proofs.Kept.{mailbox_kept, task_kept}
-use Rattle.vx_instances.specs.Instances.{InstancesStand}
 use Rattle.vx_hub.specs.Counts.{with_entry}
 use Rattle.vx_hub.specs.Named.{NameContexts}
 use Rattle.vx_hub.specs.Stores.{HubStore}
@@ -206,41 +205,21 @@ row_answers history pass call reply short built follows =
     ∙ ap (λ o. unless_refused o (row history pass call)) (sym (not_shut history call built))
     ∙ ap (λ b. unless_refused (option_or (refused_if b refusals.Spent) (shut history call)) (row history pass call)) (sym unspent)
 
--- an entry whose reply is that of its row may follow
-pub may_follow : (history : List Traced) (pass : PassNo) (call : Call) (reply : Reply) → is_built call ≡ true → length history < 2 ^ 48 → AreBuilt history → pass.0 < passes history → reply ≡ row history pass call →
-    MayFollow history (plain_entry pass call reply no_mark)
-may_follow history pass call reply is short built known answered = record {
-  known = known;
-  answered = row_answers history pass call reply short built answered;
-  room = short;
-  stated = sym (no_states history pass call built is);
-  mark = sym (no_mark_made history pass call reply built is);
-}
-
--- what is kept is what the history with the entry says
-abbrev pub KeepsVerticles : HubStore → HubStore → PassNo → Call → Reply → Type 0
-KeepsVerticles old new pass call reply =
-    (history : List Traced) → StandsFor old history → MayFollow history (plain_entry pass call reply no_mark) → HubStands new (history ++ plain_entry pass call reply no_mark ∷ []) →
-    InstancesStand new.instances (history ++ plain_entry pass call reply no_mark ∷ [])
-
-pub meets : (old new : HubStore) (pass : PassNo) (call : Call) (reply : Reply) → is_built call ≡ true → old.counts.entries < 2 ^ 48 → new.counts ≡ with_entry old.counts call reply → Rows old new pass call reply →
-    KeepsVerticles old new pass call reply → Meets old new pass call reply []
-meets old new pass call reply is small more rows keeps = λ history stands known.
+pub meets : (old new : HubStore) (pass : PassNo) (call : Call) (reply : Reply) → is_built call ≡ true → old.counts.entries < 2 ^ 48 → new.counts ≡ with_entry old.counts call reply → Rows old new pass call reply → Meets old new pass call reply
+meets old new pass call reply is small more rows = λ history stands known.
     let short : length history < 2 ^ 48 = (let P : ℕ → Type 0 = λ n. n < 2 ^ 48 in subst P (entries_of old history stands.parts) small) in
     let unspent = is_unspent history short in
     let built = stands.parts.parts.built in
     let follows = rows history stands.parts.parts (entries_of old history stands.parts) in
-    let may = may_follow history pass call reply is short built known follows.answered in
+    let answers = row_answers history pass call reply short built follows.answered in
     let none : marked history pass call reply ≡ no_mark = no_mark_made history pass call reply built is in
     let with : Mark → List Traced = λ mark. history ++ plain_entry pass call reply mark ∷ [] in
     let P : List Traced → Type 0 = StandsFor new in
-    let parts = parts_more old new history pass call reply stands.parts more follows in
     record {
-      answered = may.answered;
+      answered = answers;
       stands = subst P (ap with (sym none) ∙ ap (λ b. cond b history (with (marked history pass call reply))) (sym unspent)) (record {
-        parts = parts;
-        instances = keeps history stands may parts;
-        legal = legal_more history (plain_entry pass call reply no_mark) stands.legal may;
+        parts = parts_more old new history pass call reply stands.parts more follows;
+        legal = legal_more history (plain_entry pass call reply no_mark) stands.legal (record { known = known; answered = answers; room = short; stated = sym (no_states history pass call built is); mark = sym none });
       });
       refused = refused_unchanged history pass call reply;
     }

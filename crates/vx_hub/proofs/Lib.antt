@@ -14,5 +14,3 @@ pub mod Advancing
 pub mod RowAdvance
 pub mod Crossing
 pub mod Looking
-pub mod Handing
-pub mod Ends

@@ -42,7 +42,7 @@ no_verticle history id built =
       | Some context ↦ λ found. Each-find IsOutside (is_context_of id) (contexts history) context (contexts_outside history built) found
     ] refl
 
-pub none_held : (history : List Traced) (o : Option ContextId) → AreBuilt history → deployment_of_held history o ≡ None
+none_held : (history : List Traced) (o : Option ContextId) → AreBuilt history → deployment_of_held history o ≡ None
 none_held history None built = refl
 none_held history (Some context) built = ap (λ b. cond b (Some (deployment_of context)) None) (no_verticle history context built)
 

@@ -1,6 +1,6 @@
 -- The histories that a hub stands for.
 use Rattle.vx_call.specs.Built.{AreBuilt}
-use Rattle.std.specs.Prelude.{◌≡◌, ℕ, ◌<◌, ℤ, false, List, [], ◌∷◌, ◌++◌, Result, Ok, Err}
+use Rattle.std.specs.Prelude.{◌≡◌, ℕ, ◌<◌, false, List, [], ◌∷◌, ◌++◌, Result, Ok, Err}
 use Rattle.vx_data.specs.declared.ids.PassNo.{PassNo}
 use Rattle.vx_timer.specs.declared.timers.Timer.{Timer}
 use Rattle.vx_call.specs.declared.call.Call.{Call}
@@ -11,12 +11,11 @@ use Rattle.vx_call.specs.declared.history.Traced.{Traced}
 use Rattle.vx_call.specs.History.{is_accepted, plain_entry, no_mark}
 use Rattle.vx_call.specs.Passes.{passes}
 use Rattle.vx_call.specs.Time.{now}
-use Rattle.vx_call.specs.Machine.{row, answer, extended_with, IsLegal}
+use Rattle.vx_call.specs.Machine.{row, answer, extended, IsLegal}
 use Rattle.vx_call.specs.Unchanged.{IsUnchanged}
 use Rattle.vx_context.specs.Stores.{ContextStore}
 use Rattle.vx_bus_store.specs.Stores.{BusStore}
 use Rattle.vx_bus_store.specs.Stands.{StoresStand}
-use Rattle.vx_instances.specs.Instances.{InstancesStand}
 use Rattle.vx_hub.specs.Counts.{counted}
 use Rattle.vx_hub.specs.Named.{NameContexts}
 use Rattle.vx_hub.specs.Stores.{HubStore}
@@ -37,30 +36,23 @@ pub record HubStands (hub : HubStore) (history : List Traced) : Type 0 where
   pub counts : hub.counts ≡ counted history
   pub parts : PartsStand hub.passes hub.now hub.contexts hub.timers hub.bus history
 
--- ... and the verticles that it keeps
-pub record AllStand (hub : HubStore) (history : List Traced) : Type 0 where
-  pub parts : HubStands hub history
-  pub instances : InstancesStand hub.instances history
-
--- The hub stands for a history: its parts are those of the history, it keeps the verticles that the history says, each with
--- its state, and each reply in the history is the machine's.
+-- The hub stands for a history: its parts are those of the history, and each reply in the history is the machine's.
 pub record StandsFor (hub : HubStore) (history : List Traced) : Type 0 where
   pub parts : HubStands hub history
-  pub instances : InstancesStand hub.instances history
   pub legal : IsLegal history
 
 -- ## What a call promises
 
--- The reply is the machine's, and the hub stands for the history that the call leaves: one more entry, with the states of
--- the verticles that go with it, but none where the history is spent. A refused call changes nothing else.
-pub record Answered (new : HubStore) (history : List Traced) (pass : PassNo) (call : Call) (reply : Reply) (states : List (List ℤ)) : Type 0 where
+-- The reply is the machine's, and the hub stands for the history that the call leaves: one more entry, but none where
+-- the history is spent. A refused call changes nothing else.
+pub record Answered (new : HubStore) (history : List Traced) (pass : PassNo) (call : Call) (reply : Reply) : Type 0 where
   pub answered : reply ≡ answer history pass call
-  pub stands : StandsFor new (extended_with history pass call reply states)
-  pub refused : is_accepted reply ≡ false → IsUnchanged history (extended_with history pass call reply states)
+  pub stands : StandsFor new (extended history pass call reply)
+  pub refused : is_accepted reply ≡ false → IsUnchanged history (extended history pass call reply)
 
 -- whatever history the hub stood for, a call of a pass that is there is answered as the machine answers it
-abbrev pub Meets : HubStore → HubStore → PassNo → Call → Reply → List (List ℤ) → Type 0
-Meets old new pass call reply states = (history : List Traced) → StandsFor old history → pass.0 < passes history → Answered new history pass call reply states
+abbrev pub Meets : HubStore → HubStore → PassNo → Call → Reply → Type 0
+Meets old new pass call reply = (history : List Traced) → StandsFor old history → pass.0 < passes history → Answered new history pass call reply
 
 -- the hub stands for whatever it stood for
 abbrev pub Keeps : HubStore → HubStore → Type 0

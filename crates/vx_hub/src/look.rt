@@ -7,7 +7,6 @@ ghost use Rattle.vx_hub.specs.Looks.{look_at, least_due};
 
 use crate::hub::Hub;
 use vx_call::Lane;
-use vx_verticle::Verticle;
 
 /// What a lane has.
 #[derive(Clone, Copy, PartialEq, Eq)]
@@ -18,7 +17,7 @@ pub enum Look {
     Idle,
 }
 
-impl<V: Verticle> Hub<V> {
+impl Hub {
     /// Whether a lane has a next task.
     pub fn look(&self, lane: Lane) -> Look
         ensures { (history : List Traced) → StandsFor self.entry.now history → result ≡ look_at history lane }

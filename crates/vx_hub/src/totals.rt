@@ -6,7 +6,6 @@ ghost use Rattle.vx_hub.specs.Looks.{totals_of, summary_line};
 
 use crate::hub::Hub;
 use vx_data::NoMemory;
-use vx_verticle::Verticle;
 
 /// How much was done in a history. A refused call counts for none of them.
 #[derive(Clone, Copy, PartialEq, Eq)]
@@ -42,7 +41,7 @@ impl Totals {
     }
 }
 
-impl<V: Verticle> Hub<V> {
+impl Hub {
     /// How much was done in the history.
     pub fn totals(&self) -> Totals
         ensures { (history : List Traced) → StandsFor self.entry.now history → result ≡ totals_of history }

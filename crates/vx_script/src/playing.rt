@@ -19,33 +19,24 @@ use crate::limit::LIMIT;
 use std::alloc::Global;
 use vx_call::{Call, End, Reply};
 use vx_data::{EntryNo, NoMemory, PassNo};
-use vx_hub::{Back, Hub};
+use vx_hub::Hub;
 use vx_io::{Sink, SinkFault, write_all};
-use vx_kinds::HostVerticle;
 use vx_line::{Command, Instruction};
 use vx_reply_text::write_reply;
 
-// Ends a task. No verticle is there so far, so none was handed out with it.
-fn finish(hub: &mut Hub<HostVerticle>, pass: PassNo, end: End) -> Reply
-    ensures { Meets hub.old hub.new pass (Call.Finish end) result [] }
+fn finish(hub: &mut Hub, pass: PassNo, end: End) -> Reply
+    ensures { Meets hub.old hub.new pass (Call.Finish end) result }
 {
-    if hub.gave_verticle(pass) {
-        return Reply::Done;
-    }
-    let back = Back {
-        verticle: None,
-        end,
-    };
-    match hub.finish(pass, back) {
+    match hub.finish(pass, end) {
         Ok(()) => Reply::Done,
-        Err(refused) => Reply::Refused(refused.why),
+        Err(refusal) => Reply::Refused(refusal),
     }
 }
 
-fn step(hub: &mut Hub<HostVerticle>, pass: PassNo, call: Call) -> Result<Reply, NoMemory>
+fn step(hub: &mut Hub, pass: PassNo, call: Call) -> Result<Reply, NoMemory>
     requires plain { IsTrue (is_plain call) }
     requires built { IsTrue (is_built call) }
-    ensures reply { IfOk result (λ reply. Meets hub.old hub.new pass call reply []) }
+    ensures reply { IfOk result (λ reply. Meets hub.old hub.new pass call reply) }
     ensures err { OnErr result (Keeps hub.old hub.new) }
 {
     match hub.step(pass, call) {
@@ -55,16 +46,16 @@ fn step(hub: &mut Hub<HostVerticle>, pass: PassNo, call: Call) -> Result<Reply, 
 }
 
 /// Makes a call of a pass, and gives the reply.
-fn make_call(hub: &mut Hub<HostVerticle>, pass: PassNo, call: Call) -> Result<Reply, NoMemory>
+fn make_call(hub: &mut Hub, pass: PassNo, call: Call) -> Result<Reply, NoMemory>
     requires { IsTrue (is_built call) }
-    ensures reply { IfOk result (λ reply. Meets hub.old hub.new pass call reply []) }
+    ensures reply { IfOk result (λ reply. Meets hub.old hub.new pass call reply) }
     ensures err { OnErr result (Keeps hub.old hub.new) }
 {
     if call.plain() {
         return step(hub, pass, call);
     }
     let reply = match &call {
-        Call::Take(lane) => hub.take(pass, *lane).reply,
+        Call::Take(lane) => hub.take(pass, *lane),
         Call::Finish(end) => finish(hub, pass, *end),
         _ => unreachable!(),
     };
@@ -104,7 +95,7 @@ fn write_one<K: Sink>(
 /// front of it else.
 fn make_one<K: Sink>(
     alloc: Global,
-    hub: &mut Hub<HostVerticle>,
+    hub: &mut Hub,
     at: EntryNo,
     command: Command,
     sink: &mut K,
@@ -130,7 +121,7 @@ fn make_one<K: Sink>(
 /// Makes all calls on a hub that made none before.
 fn make_all<K: Sink>(
     alloc: Global,
-    hub: &mut Hub<HostVerticle>,
+    hub: &mut Hub,
     commands: Vec<Command>,
     sink: &mut K,
 ) -> Result<(), SinkFault>

@@ -28,14 +28,12 @@ use Rattle.vx_context.specs.Stores.{ContextStore, closed_in, item_of}
 use Rattle.vx_bus_store.specs.Stores.{handler_of, row_of, timer_of}
 use Rattle.vx_hub.specs.Stores.{HubStore}
 use Rattle.vx_hub.specs.Stands.{HubStands}
-use Rattle.vx_instances.proofs.Rows.{none_at_first}
 use Rattle.vx_hub.proofs.Named.{none_named}
-use Rattle.vx_hub.proofs.hub.Hub.new.Given as given
 use Rattle.vx_hub.proofs.hub.Hub.new.Goals as goal
 
 -- a hub with empty stores is that of the empty history
-empty : (g : given.Over) (c : goal.After-new-5 g) → (let hub : HubStore = record { counts = c.new.result; passes = 1; now = c.at.result; contexts = c.new-2.result; timers = c.new-3.result; bus = c.new-4.result; instances = c.new-5.result.kept } in HubStands hub [])
-empty g c = record {
+empty : (c : goal.After-new-4) → (let hub : HubStore = record { counts = c.new.result; passes = 1; now = c.at.result; contexts = c.new-2.result; timers = c.new-3.result; bus = c.new-4.result } in HubStands hub [])
+empty c = record {
   counts = c.new.ensures;
   parts = record {
     passes = ap (λ ps. length ps + 1) (sym (lasting_none pass_kind));
@@ -68,8 +66,8 @@ empty g c = record {
 }
 
 pub invariant_of-result : goal.invariant_of-result
-invariant_of-result g c = (
-  ∣ ([], empty g c) ∣₁,
+invariant_of-result c = (
+  ∣ ([], empty c) ∣₁,
   record {
     items = rw (c.new-4.ensures.requests, c.new-4.ensures.consumers) (omega arith);
     tasks = rw c.new-4.ensures.requests (omega arith);
@@ -77,4 +75,4 @@ invariant_of-result g c = (
 )
 
 pub returns : goal.returns
-returns g c = record { empty = record { parts = empty g c; instances = c.new-5.ensures ∙ none_at_first; legal = legal_none } }
+returns c = record { empty = record { parts = empty c; legal = legal_none } }

@@ -5,7 +5,7 @@ use Rattle.vx_hub.specs.Stands.{StandsFor}
 use Rattle.vx_hub.proofs.hub.Hub.totals.Goals as goal
 
 pub returns : goal.returns
-returns g c = λ history stands.
+returns c = λ history stands.
     let P : HubStore → Type 0 = λ hub. StandsFor hub history in
     let here = subst P (sym c.self.view_is) stands in
     let messages = c.messages.ensures ∙ ap (λ (counts : Counted). counts.messages) here.parts.counts in
