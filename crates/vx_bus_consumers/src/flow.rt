@@ -30,6 +30,7 @@ pub fn pause(
     requires one { AreOfOneHistory contexts.old timers.now bus.old }
     ensures follows { (history : List Traced) → StoresStand contexts.old timers.now bus.old history → IsNext at history → Follows contexts.new timers.now bus.new history pass (calls.Pause consumer) result }
     ensures places { HavePlaces contexts.new bus.new }
+    ensures owed { contexts.new.owed ≡ contexts.old.owed }
 {
     if let Some(refusal) = consumer_refusal(contexts, bus, pass, consumer) {
         return Reply::Refused(refusal);
@@ -52,6 +53,7 @@ pub fn resume(
     requires one { AreOfOneHistory contexts.old timers.now bus.old }
     ensures follows { (history : List Traced) → StoresStand contexts.old timers.now bus.old history → IsNext at history → Follows contexts.new timers.now bus.new history pass (calls.Resume consumer) result }
     ensures places { HavePlaces contexts.new bus.new }
+    ensures owed { contexts.new.owed ≡ contexts.old.owed }
 {
     if let Some(refusal) = consumer_refusal(contexts, bus, pass, consumer) {
         return Reply::Refused(refusal);
@@ -84,6 +86,7 @@ pub fn fetch(
     requires one { AreOfOneHistory contexts.old timers.now bus.old }
     ensures follows { (history : List Traced) → StoresStand contexts.old timers.now bus.old history → IsNext at history → Follows contexts.new timers.now bus.new history pass (calls.Fetch consumer count) result }
     ensures places { HavePlaces contexts.new bus.new }
+    ensures owed { contexts.new.owed ≡ contexts.old.owed }
 {
     if let Some(refusal) = fetch_refusal(contexts, bus, pass, consumer, count) {
         return Reply::Refused(refusal);

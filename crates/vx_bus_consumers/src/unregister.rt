@@ -1,4 +1,4 @@
-ghost use Rattle.std.specs.Prelude.{List};
+ghost use Rattle.std.specs.Prelude.{◌≡◌, List};
 ghost use Rattle.vx_call.specs.declared.call.Call.TheVariants as calls;
 ghost use Rattle.vx_call.specs.declared.history.Traced.{Traced};
 ghost use Rattle.vx_context.specs.Stands.{IsNext};
@@ -25,6 +25,7 @@ pub fn unregister(
     requires places { HavePlaces contexts.old bus.old }
     ensures follows { (history : List Traced) → StoresStand contexts.old timers.old bus.old history → IsNext at history → Follows contexts.new timers.new bus.new history pass (calls.Unregister consumer) result }
     ensures places { HavePlaces contexts.new bus.new }
+    ensures owed { contexts.new.owed ≡ contexts.old.owed }
 {
     if let Some(refusal) = consumer_refusal(contexts, bus, pass, consumer) {
         return Reply::Refused(refusal);

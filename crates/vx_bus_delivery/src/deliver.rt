@@ -95,6 +95,7 @@ pub fn pass_on(
     ensures places { HavePlaces contexts.new bus.new }
     ensures room { (id : ConsumerId) (more : ℕ) → to ≡ reached.Consumer id → HaveRoom contexts.old bus.old (more + 1) → HaveRoom contexts.new bus.new more }
     ensures requests { bus.new.requests ≡ bus.old.requests }
+    ensures owed { contexts.new.owed ≡ contexts.old.owed }
 {
     count_choice(bus, &passage, address);
     if let (To::Consumer(consumer), Passage::Arrives(message)) = (to, passage) {
@@ -116,6 +117,7 @@ pub fn deliver(
     ensures accepts { (h : Handler) → handler_in bus.old.consumers consumer ≡ Some h → Accepts contexts.old contexts.new bus.old bus.new at (recipient_of h) message }
     ensures places { HavePlaces contexts.new bus.new }
     ensures room { (more : ℕ) → HaveRoom contexts.old bus.old (more + 1) → HaveRoom contexts.new bus.new more }
+    ensures owed { contexts.new.owed ≡ contexts.old.owed }
 {
     let recipient = match bus.recipient(consumer) {
         Some(recipient) => recipient,

@@ -90,6 +90,7 @@ pub fn settle(
     ensures settled { Settles contexts.old contexts.new timers.old timers.new bus.old bus.new at request outcome }
     ensures room { (more : ℕ) → HaveRoom contexts.old bus.old more → HaveRoom contexts.new bus.new more }
     ensures requests { bus.old.requests.room ≤ bus.new.requests.room }
+    ensures owed { contexts.new.owed ≡ contexts.old.owed }
 {
     if let Some(asker) = bus.settle(request, at) {
         timers.cancel(request.0);

@@ -19,6 +19,7 @@ pub fn time_out(contexts: &mut Contexts, bus: &mut Bus, at: EntryNo, place: u64,
     ensures ends { (asker : ContextId) → asker_in (find (is_request request) bus.old.requests.waiting) ≡ Some asker → TimesOut contexts.old contexts.new bus.old bus.new at place request asker }
     ensures left_alone { find (is_request request) bus.old.requests.waiting ≡ None → (contexts.new ≡ contexts.old) × IsLeftAlone bus.old bus.new }
     ensures places { HavePlaces contexts.new bus.new }
+    ensures owed { contexts.new.owed ≡ contexts.old.owed }
 {
     if let Some(asker) = bus.settle(request, at) {
         put_outcome(contexts, bus, at, place, request, asker, timed_out());

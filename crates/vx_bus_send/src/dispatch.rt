@@ -51,6 +51,7 @@ pub fn step(
     ensures back { IfErr result (λ unmade. unmade.call ≡ call) }
     ensures sure { takes_no_memory call ≡ true → IsOk result }
     ensures places { HavePlaces contexts.new bus.new }
+    ensures owed { contexts.new.owed ≡ contexts.old.owed }
 {
     match call {
         Call::Send {

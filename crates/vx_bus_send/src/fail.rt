@@ -1,4 +1,4 @@
-ghost use Rattle.std.specs.Prelude.{List};
+ghost use Rattle.std.specs.Prelude.{◌≡◌, List};
 ghost use Rattle.vx_call.specs.declared.history.Traced.{Traced};
 ghost use Rattle.vx_context.specs.Stands.{IsNext};
 ghost use Rattle.vx_bus_store.specs.Stands.{StoresStand, Follows, HavePlaces};
@@ -27,6 +27,7 @@ pub fn fail(
     requires places { HavePlaces contexts.old bus.old }
     ensures follows { (history : List Traced) → StoresStand contexts.old timers.old bus.old history → IsNext at history → Follows contexts.new timers.new bus.new history pass (calls.Fail message code text) result }
     ensures places { HavePlaces contexts.new bus.new }
+    ensures owed { contexts.new.owed ≡ contexts.old.owed }
 {
     if let Some(refusal) = fail_refusal(contexts, bus, pass, message, &text) {
         return Reply::Refused(refusal);

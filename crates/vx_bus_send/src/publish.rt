@@ -45,6 +45,7 @@ pub fn publish(
     ensures err { OnErr result ((history : List Traced) → StoresStand contexts.old timers.now bus.old history → StoresStand contexts.new timers.now bus.new history) }
     ensures back { IfErr result (λ unmade. unmade.call ≡ Call.Publish address body options) }
     ensures places { HavePlaces contexts.new bus.new }
+    ensures owed { contexts.new.owed ≡ contexts.old.owed }
 {
     if let Some(refusal) = send_refusal(contexts, bus, pass, &address, &body, &options) {
         return Ok(Reply::Refused(refusal));
@@ -80,6 +81,7 @@ fn publish_on(
     ensures ok { IfOk result (λ reached. (history : List Traced) → StoresStand contexts.old timers.now bus.old history → IsNext at history → send_refusal history pass address.now body.now options.now ≡ None → Follows contexts.new timers.now bus.new history pass (calls.Publish address.now body.now options.now) (replies.Published reached.items)) }
     ensures err { OnErr result ((history : List Traced) → StoresStand contexts.old timers.now bus.old history → StoresStand contexts.new timers.now bus.new history) }
     ensures places { HavePlaces contexts.new bus.new }
+    ensures owed { contexts.new.owed ≡ contexts.old.owed }
 {
     let Passage::Arrives(message) = passage_for(bus, at, address, body, options, false, true)?
     else {

@@ -28,6 +28,7 @@ pub fn reply(
     ensures err { OnErr result ((history : List Traced) → StoresStand contexts.old timers.old bus.old history → StoresStand contexts.new timers.new bus.new history) }
     ensures back { IfErr result (λ unmade. unmade.call ≡ Call.Reply message body options) }
     ensures places { HavePlaces contexts.new bus.new }
+    ensures owed { contexts.new.owed ≡ contexts.old.owed }
 {
     if let Some(refusal) = reply_refusal(contexts, bus, pass, message, &body, &options) {
         return Ok(Reply::Refused(refusal));

@@ -40,6 +40,7 @@ pub fn reply_request(
     ensures err { OnErr result ((history : List Traced) → StoresStand contexts.old timers.old bus.old history → StoresStand contexts.new timers.new bus.new history) }
     ensures back { IfErr result (λ unmade. unmade.call ≡ Call.ReplyRequest message context body options timeout) }
     ensures places { HavePlaces contexts.new bus.new }
+    ensures owed { contexts.new.owed ≡ contexts.old.owed }
 {
     if let Some(refusal) = reply_request_refusal(
         contexts, bus, pass, message, context, &body, &options, timeout,
@@ -90,6 +91,7 @@ fn prepare_reply(
     ensures requests { OnOk result (0 < bus.new.requests.room) }
     ensures err { OnErr result (timers.new ≡ timers.old) }
     ensures places { HavePlaces contexts.new bus.new }
+    ensures owed { contexts.new.owed ≡ contexts.old.owed }
 {
     let outcome = replied(bus, body, options, Some(MessageId(at)))?;
     prepare_request(contexts, timers, bus, at, due, 0)?;

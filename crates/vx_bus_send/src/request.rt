@@ -43,6 +43,7 @@ pub fn request(
     ensures err { OnErr result ((history : List Traced) → StoresStand contexts.old timers.old bus.old history → StoresStand contexts.new timers.new bus.new history) }
     ensures back { IfErr result (λ unmade. unmade.call ≡ Call.Request context address body options timeout None) }
     ensures places { HavePlaces contexts.new bus.new }
+    ensures owed { contexts.new.owed ≡ contexts.old.owed }
 {
     if let Some(refusal) = request_refusal(
         contexts, bus, pass, context, &address, &body, &options, timeout,
@@ -88,6 +89,7 @@ fn ask(
     ensures ok { IfOk result (λ to. (history : List Traced) (pass : PassNo) (now timeout : ℕ) → StoresStand contexts.old timers.old bus.old history → IsAt at now history → due ≡ now + timeout → request_refusal history pass context address.now body.now options.now timeout ≡ None → Follows contexts.new timers.new bus.new history pass (calls.Request context address.now body.now options.now timeout None) (replies.Asked to)) }
     ensures err { OnErr result ((history : List Traced) → StoresStand contexts.old timers.old bus.old history → StoresStand contexts.new timers.new bus.new history) }
     ensures places { HavePlaces contexts.new bus.new }
+    ensures owed { contexts.new.owed ≡ contexts.old.owed }
 {
     let passage = passage_for(bus, at, address, body, options, true, false)?;
     let to = destination(bus, &passage, address);
@@ -122,6 +124,7 @@ fn ask_nobody(
     ensures ok { OnOk result (EndsUnheard contexts.old contexts.new bus.old bus.new at context) }
     ensures err { OnErr result ((history : List Traced) (timers : List Timer) → StoresStand contexts.old timers bus.old history → StoresStand contexts.new timers bus.new history) }
     ensures places { HavePlaces contexts.new bus.new }
+    ensures owed { contexts.new.owed ≡ contexts.old.owed }
 {
     let id = MessageId(at);
     make_room(contexts, bus, 1)?;
@@ -148,6 +151,7 @@ pub fn prepare_request(
     ensures requests { OnOk result (0 < bus.new.requests.room) }
     ensures err { OnErr result (timers.new ≡ timers.old) }
     ensures places { HavePlaces contexts.new bus.new }
+    ensures owed { contexts.new.owed ≡ contexts.old.owed }
 {
     make_room(contexts, bus, more + 1)?;
     bus.reserve_request()?;

@@ -36,6 +36,7 @@ pub fn send(
     ensures err { OnErr result ((history : List Traced) → StoresStand contexts.old timers.now bus.old history → StoresStand contexts.new timers.now bus.new history) }
     ensures back { IfErr result (λ unmade. unmade.call ≡ Call.Send address body options) }
     ensures places { HavePlaces contexts.new bus.new }
+    ensures owed { contexts.new.owed ≡ contexts.old.owed }
 {
     if let Some(refusal) = send_refusal(contexts, bus, pass, &address, &body, &options) {
         return Ok(Reply::Refused(refusal));
@@ -72,6 +73,7 @@ fn send_on(
     ensures ok { IfOk result (λ to. (history : List Traced) → StoresStand contexts.old timers.now bus.old history → IsNext at history → send_refusal history pass address.now body.now options.now ≡ None → Follows contexts.new timers.now bus.new history pass (calls.Send address.now body.now options.now) (replies.Sent to)) }
     ensures err { OnErr result ((history : List Traced) → StoresStand contexts.old timers.now bus.old history → StoresStand contexts.new timers.now bus.new history) }
     ensures places { HavePlaces contexts.new bus.new }
+    ensures owed { contexts.new.owed ≡ contexts.old.owed }
 {
     let passage = passage_for(bus, at, address, body, options, false, false)?;
     let to = destination(bus, &passage, address);

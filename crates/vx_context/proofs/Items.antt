@@ -29,7 +29,7 @@ pub record LeavesItems (history : List Traced) (new : Traced) : Type 0 where
   pub contexts : made_by context_kind history new ≡ []
   pub queued : made_by queued_kind history new ≡ []
 
-mode_left : (history : List Traced) (new : Traced) → made_by queued_kind history new ≡ [] → (task : Task) → mode_of (history ++ new ∷ []) task ≡ mode_of history task
+pub mode_left : (history : List Traced) (new : Traced) → made_by queued_kind history new ≡ [] → (task : Task) → mode_of (history ++ new ∷ []) task ≡ mode_of history task
 mode_left history new none (tasks.Job id) =
     ap (λ all. mode_in (find (λ (queued : Queued). same_queued id queued.id) all)) (lasting_same queued_kind history new none (λ queued. and_false (is_accepted new.entry.reply)))
 mode_left history new none _ = refl

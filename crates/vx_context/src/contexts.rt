@@ -1,4 +1,4 @@
-ghost use Rattle.std.specs.Prelude.{◌≡◌, ◌+◌, ◌-◌, ◌<◌, ◌≤◌, ◌==◌, not, ◌&&◌, if◌then◌else◌, [], ◌∷◌, ◌++◌, length, map, filter, find, is_some, is_none, None, position, remove, slice_index_or, Some, OnOk, OnErr, vec_len, vec_capacity};
+ghost use Rattle.std.specs.Prelude.{◌≡◌, ◌+◌, ◌-◌, ◌<◌, ◌≤◌, ◌==◌, not, ◌&&◌, if◌then◌else◌, [], ◌∷◌, ◌++◌, length, map, filter, find, is_some, is_none, None, position, remove, take, slice_index_or, Some, IfErr, OnOk, OnErr, vec_len, vec_capacity};
 ghost use Rattle.std.specs.Option.{option_copied, option_map, option_or, option_and_then};
 ghost use Rattle.vx_data.specs.Ids.{same_context};
 ghost use Rattle.vx_message.specs.declared.Held.{Held};
@@ -100,7 +100,7 @@ impl Contexts {
 
     /// Adds contexts, which are open, in their order: all of them, or none where memory runs out.
     pub fn add_all(&mut self, contexts: &[Context]) -> Result<(), NoMemory>
-        ensures ok { OnOk result (self.new ≡ record self.old { made = self.old.made ++ contexts.now; closings = self.new.closings }) }
+        ensures ok { OnOk result (self.new ≡ record self.old { made = self.old.made ++ contexts.now; closings = self.old.closings ++ map kept_open contexts.now }) }
         ensures closed { (id : ContextId) → closed_in id self.new.closings ≡ closed_in id self.old.closings }
         ensures err { OnErr result (self.new ≡ self.old) }
     {
@@ -109,13 +109,24 @@ impl Contexts {
         Ok(())
     }
 
-    /// Adds a worker pool.
-    pub fn add_pool(&mut self, pool: Pool) -> Result<(), NoMemory>
+    /// Takes the last contexts back, so many as were just added. It takes no memory.
+    pub fn take_back(&mut self, count: usize)
+        ensures { self.new ≡ record self.old { made = take (length self.old.made - count) self.old.made; closings = take (length self.old.closings - count) self.old.closings } }
+    {
+        self.contexts
+            .truncate(self.contexts.len().saturating_sub(count));
+    }
+
+    /// Adds a worker pool. Without memory it comes back.
+    pub fn add_pool(&mut self, pool: Pool) -> Result<(), Pool>
         ensures ok { OnOk result (self.new ≡ record self.old { pools = self.old.pools ++ pool ∷ [] }) }
         ensures err { OnErr result (self.new ≡ self.old) }
+        ensures back { IfErr result (λ given_back. given_back ≡ pool) }
     {
-        self.pools.push(pool)?;
-        Ok(())
+        match self.pools.push(pool) {
+            Ok(()) => Ok(()),
+            Err(failed) => Err(failed.value),
+        }
     }
 
     /// The context of this name.
@@ -137,6 +148,13 @@ impl Contexts {
         ensures { result ≡ (is_some (find (is_context_of id) self.now.made) && is_none (closed_in id self.now.closings)) }
     {
         self.context(id).is_some() && self.closed_at(id).is_none()
+    }
+
+    /// The worker pools with a name, in the order of adding.
+    pub fn pools(&self) -> &[Pool]
+        ensures { result.now ≡ self.now.pools }
+    {
+        &self.pools
     }
 
     /// How many tasks of the pool of this name may run at once, where it is there.
@@ -370,6 +388,7 @@ fn closed_at(contexts: &Vec<Kept>, id: ContextId) -> Option<EntryNo>
 // Adds contexts that are open, for which there is room.
 fn push_open(contexts: &mut Vec<Kept>, more: &[Context])
     requires { vec_len contexts.old + length more.now ≤ vec_capacity contexts.old }
+    ensures added { contexts.new.items ≡ contexts.old.items ++ map kept_open more.now }
     ensures made { map context_of contexts.new.items ≡ map context_of contexts.old.items ++ more.now }
     ensures closed { (id : ContextId) → closed_in id contexts.new.items ≡ closed_in id contexts.old.items }
 {

@@ -2,4 +2,15 @@ pub mod Tellings
 pub mod Moved
 pub mod RowMoving
 pub mod RowUndeploy
+pub mod NamedPools
+pub mod NewContexts
+pub mod BeforeDeploy
+pub mod RowLoops
+pub mod RowDeploy
 pub mod Refused
+pub mod EndsOpen
+pub mod RowEnds
+pub mod EndsPlaces
+pub mod RowDone
+pub mod EndRefusals
+pub mod RowClose

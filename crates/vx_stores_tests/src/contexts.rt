@@ -76,11 +76,14 @@ fn take_in_turn(contexts: &mut Contexts) -> Result<bool, NoMemory> {
 
 // Adds two workers of a pool of one, with a task each, and says whether the second waits until the first is done.
 fn take_by_pool(contexts: &mut Contexts) -> Result<bool, NoMemory> {
-    contexts.add_pool(Pool {
+    let pool = Pool {
         id: POOL,
         name: Text::constant("w"),
         size: 1,
-    })?;
+    };
+    if contexts.add_pool(pool).is_err() {
+        return Err(NoMemory);
+    }
     contexts.add(worker(FIRST_WORKER))?;
     contexts.add(worker(SECOND_WORKER))?;
     contexts.reserve(2)?;

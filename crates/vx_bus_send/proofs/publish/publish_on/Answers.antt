@@ -1,4 +1,4 @@
-use Rattle.std.proofs.Common.{map, ap, sym, ◌∙◌, arith}
+use Rattle.std.proofs.Common.{map, refl, ap, sym, ◌∙◌, arith}
 use Rattle.vx_bus_store.specs.declared.bus.Recipient.{Recipient}
 use Rattle.vx_bus_send.specs.Published.{parcel_for}
 use Rattle.vx_bus_store.specs.Stores.{BusStore}
@@ -12,6 +12,7 @@ returns-in_default c = record {
       stands is_next accepted c.in_ok-message.ensures c.in_default.not-Arrives);
   err = tt;
   places = c.requires.places;
+  owed = refl;
 }
 
 pub deliver_each-requires-clause-items : goal.deliver_each-requires-clause-items

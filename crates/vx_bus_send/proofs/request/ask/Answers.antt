@@ -53,4 +53,5 @@ returns-in_ok-ask_nobody-in_default c = record {
       (record { passes = c.in_ok-passage.ensures; goes = c.destination-to.ensures }) c.in_default.not-Consumer c.in_ok-ask_nobody-in_default.ensures.ok c.pass_on-in_default.ensures.passes;
   err = tt;
   places = c.pass_on-in_default.ensures.places;
+  owed = c.pass_on-in_default.ensures.owed ∙ c.ask_nobody.ensures.owed;
 }

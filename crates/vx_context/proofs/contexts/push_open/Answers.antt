@@ -4,6 +4,11 @@ use Rattle.vx_context.specs.Stores.{context_of, kept_open, closed_in}
 use Rattle.vx_context.proofs.Closings.{closed_with_more, made_more}
 use Rattle.vx_context.proofs.contexts.push_open.Goals as goal
 
+pub returns-clause-added : goal.returns-clause-added
+returns-clause-added c =
+    c.loop-context.invariant.0
+    ∙ ap (λ more. c.args.contexts.now.items ++ map kept_open more) (take_all c.loop-context.context-index c.args.more.now (omega arith))
+
 pub returns-clause-made : goal.returns-clause-made
 returns-clause-made c =
     let more = take c.loop-context.context-index c.args.more.now in

@@ -8,7 +8,7 @@ use Rattle.vx_call.specs.Refusals.{unless_refused, no_deployment}
 use Rattle.vx_bus_refusals.proofs.Chains.{none_of_first}
 use Rattle.vx_life_rows.proofs.RowEnds.{known_there}
 use Rattle.vx_core_life.proofs.Refused.{lives_refused}
-use Rattle.vx_core_life.proofs.RowUndeploy.{asked_apart, undeploys}
+use Rattle.vx_core_life.proofs.RowUndeploy.{undeploys}
 use Rattle.vx_core_life.proofs.undeploying.undeploy.Goals as goal
 
 pub ask-requires : goal.ask-requires
@@ -25,6 +25,5 @@ returns-in-Some-clause-follows c = λ history timers bus stands legal is_next.
 pub returns-clause-follows : goal.returns-clause-follows
 returns-clause-follows c = λ history timers bus stands legal is_next.
     let free = sym (c.undeploy_refusal.ensures history stands.stores.contexts stands.lives) ∙ c.in_default.is in
-    let apart = asked_apart c.args.life.now c.ask.new.self c.args.contexts.now timers bus history c.args.at c.args.pass c.args.deployment c.args.tell stands legal is_next free c.ask.ensures in
     undeploys c.args.life.now c.ask.new.self c.move_on.new.life c.args.contexts.now c.move_on.new.contexts timers bus history c.args.at c.args.pass c.args.deployment c.args.tell stands legal is_next free c.ask.ensures
-    (c.move_on.ensures.said apart) (c.move_on.ensures.told apart)
+    c.move_on.ensures.said c.move_on.ensures.told

@@ -1,0 +1,4 @@
+pub mod Views
+pub mod Waits
+pub mod Named
+pub mod RowTake
