@@ -1,14 +1,11 @@
 //! A first program with the library: a context with one consumer, a message for it, and its handler.
 #![tactic(auto)]
 
-ghost use Rattle.std.specs.Prelude.{◌<◌};
-
 use std::alloc::Global;
 use std::io;
 use vx_call::{Call, End, Lane, Options, Reply, Task, To, Unmade};
 use vx_data::{Body, BodyView, ContextId, PassNo, Text};
-use vx_hub::{Back, Hub, Taken};
-use vx_kinds::HostVerticle;
+use vx_hub::Hub;
 
 /// The one caller.
 const PASS: PassNo = PassNo(0);
@@ -30,10 +27,7 @@ fn is_made(answer: Result<Reply, Unmade>) -> bool {
 }
 
 /// Makes a context with a consumer, and answers the context.
-fn set_up(hub: &mut Hub<HostVerticle>) -> Option<ContextId>
-    requires { 0 < hub.old.passes }
-    ensures { 0 < hub.new.passes }
-{
+fn set_up(hub: &mut Hub) -> Option<ContextId> {
     let context = context_in(hub.step(PASS, Call::NewContext))?;
     let register = Call::Register {
         context,
@@ -44,10 +38,7 @@ fn set_up(hub: &mut Hub<HostVerticle>) -> Option<ContextId>
 }
 
 /// Sends a number to the consumer: whether it was sent there.
-fn send(hub: &mut Hub<HostVerticle>, alloc: Global, number: i64) -> bool
-    requires { 0 < hub.old.passes }
-    ensures { 0 < hub.new.passes }
-{
+fn send(hub: &mut Hub, alloc: Global, number: i64) -> bool {
     let send = Call::Send {
         address: Text::constant("news"),
         body: Body::int(number),
@@ -73,26 +64,14 @@ fn handler(reply: Reply) -> Option<i64> {
 }
 
 /// Takes the next task of the context, runs its handler, and ends the task, so that the next handler may run.
-fn run_once(hub: &mut Hub<HostVerticle>, context: ContextId) -> Option<i64>
-    requires { 0 < hub.old.passes }
-{
-    let Taken { reply, verticle } = hub.take(PASS, Lane::Own(context));
-    let came = handler(reply);
-    if hub.gave_verticle(PASS) != verticle.is_some() {
-        return None;
-    }
-    let back = Back {
-        verticle,
-        end: End::Done,
-    };
-    hub.finish(PASS, back).ok()?;
+fn run_once(hub: &mut Hub, context: ContextId) -> Option<i64> {
+    let came = handler(hub.take(PASS, Lane::Own(context)));
+    hub.finish(PASS, End::Done).ok()?;
     came
 }
 
 /// Sends a number, and answers the one that the handler got.
-fn exchange(hub: &mut Hub<HostVerticle>, alloc: Global, number: i64) -> Option<i64>
-    requires { 0 < hub.old.passes }
-{
+fn exchange(hub: &mut Hub, alloc: Global, number: i64) -> Option<i64> {
     let context = set_up(hub)?;
     if send(hub, alloc, number) {
         run_once(hub, context)
@@ -103,7 +82,7 @@ fn exchange(hub: &mut Hub<HostVerticle>, alloc: Global, number: i64) -> Option<i
 
 fn main(rt: HostRuntime) -> io::Result<()> {
     let came = {
-        let mut hub: Hub<HostVerticle> = Hub::new(rt.alloc());
+        let mut hub = Hub::new(rt.alloc());
         exchange(&mut hub, rt.alloc(), 7)
     };
     match came {

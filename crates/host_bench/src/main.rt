@@ -3,7 +3,7 @@
 //! The rates are printed on standard error, and `ok` on standard output.
 #![tactic(auto)]
 
-ghost use Rattle.std.specs.Prelude.{◌≡◌, ◌<◌};
+ghost use Rattle.std.specs.Prelude.{◌≡◌};
 ghost use Rattle.vx_turn.specs.Passes.{place, place_of};
 
 mod work;
@@ -16,7 +16,6 @@ use std::thread::Threads;
 use std::time::{Clock, Duration, Instant};
 use vx_host::{Host, Pass};
 use vx_hub::Hub;
-use vx_kinds::HostVerticle;
 
 /// How many calls a message is: Send, Take, Finish.
 const CALLS: u64 = 3;
@@ -28,9 +27,7 @@ fn refused() -> Result<Duration> {
     Err(anyhow!("a call was refused"))
 }
 
-fn timed_hub<R: Clock>(rt: &R, alloc: Global, hub: &mut Hub<HostVerticle>) -> Result<Duration>
-    requires { 0 < hub.old.passes }
-{
+fn timed_hub<R: Clock>(rt: &R, alloc: Global, hub: &mut Hub) -> Result<Duration> {
     let start = Instant::now(rt)?;
     match hub_exchange_many(alloc, hub, "one", MESSAGES) {
         true => Ok(start.elapsed(rt)?),
@@ -38,7 +35,7 @@ fn timed_hub<R: Clock>(rt: &R, alloc: Global, hub: &mut Hub<HostVerticle>) -> Re
     }
 }
 
-fn timed_host<R: Wait + Clock + AllocGlobal>(rt: &R, host: &Host<HostVerticle>, pass: Pass<HostVerticle>) -> Result<Duration>
+fn timed_host<R: Wait + Clock + AllocGlobal>(rt: &R, host: &Host, pass: Pass) -> Result<Duration>
     requires { place_of pass ≡ place host.now.shared }
 {
     let start = Instant::now(rt)?;
@@ -50,9 +47,9 @@ fn timed_host<R: Wait + Clock + AllocGlobal>(rt: &R, host: &Host<HostVerticle>, 
 
 fn timed_both<R: Threads + Wait + Clock + Sync + AllocGlobal>(
     rt: &R,
-    host: &Host<HostVerticle>,
-    one: Pass<HostVerticle>,
-    two: Pass<HostVerticle>,
+    host: &Host,
+    one: Pass,
+    two: Pass,
 ) -> Result<Duration>
     requires one { place_of one ≡ place host.now.shared }
     requires two { place_of two ≡ place host.now.shared }
@@ -66,7 +63,7 @@ fn timed_both<R: Threads + Wait + Clock + Sync + AllocGlobal>(
 
 /// The hub, without a host round it.
 fn hub_alone<R: Clock>(rt: &R, alloc: Global) -> Result<Duration> {
-    let mut hub: Hub<HostVerticle> = Hub::new(alloc);
+    let mut hub = Hub::new(alloc);
     timed_hub(rt, alloc, &mut hub)
 }
 
@@ -80,8 +77,8 @@ fn host_alone<R: Wait + Clock + AllocGlobal>(rt: &R, alloc: Global) -> Result<Du
 
 fn timed_two<R: Threads + Wait + Clock + Sync + AllocGlobal>(
     rt: &R,
-    host: &Host<HostVerticle>,
-    one: Pass<HostVerticle>,
+    host: &Host,
+    one: Pass,
 ) -> Result<Duration>
     requires { place_of one ≡ place host.now.shared }
 {

@@ -1,5 +1,5 @@
 //! What is measured: a message is sent to a consumer and taken, and its task ends. These are three calls.
-ghost use Rattle.std.specs.Prelude.{◌≡◌, ◌<◌, true};
+ghost use Rattle.std.specs.Prelude.{◌≡◌, true};
 ghost use Rattle.vx_call.specs.Built.{is_built};
 ghost use Rattle.vx_call.specs.Plain.{is_plain};
 ghost use Rattle.vx_turn.specs.Passes.{place, place_of};
@@ -10,8 +10,7 @@ use std::thread::{Threads, join};
 use vx_call::{Call, End, Lane, Options, Reply, To, Unmade};
 use vx_data::{Body, ContextId, PassNo, Text};
 use vx_host::{Host, Pass};
-use vx_hub::{Back, Hub, Taken};
-use vx_kinds::HostVerticle;
+use vx_hub::Hub;
 
 /// How many messages a thread sends.
 pub const MESSAGES: u64 = 100_000;
@@ -61,21 +60,8 @@ fn is_task(reply: Reply) -> bool {
     matches!(&reply, Reply::Task(_))
 }
 
-/// What comes back of a handler that has done its work.
-fn done(verticle: Option<HostVerticle>) -> Back<HostVerticle>
-    ensures { result.verticle ≡ verticle }
-{
-    Back {
-        verticle,
-        end: End::Done,
-    }
-}
-
 /// The lane of a context of the hub's, with a consumer at an address.
-fn hub_lane(hub: &mut Hub<HostVerticle>, address: &'static str) -> Option<Lane>
-    requires { 0 < hub.old.passes }
-    ensures { 0 < hub.new.passes }
-{
+fn hub_lane(hub: &mut Hub, address: &'static str) -> Option<Lane> {
     let context = context_in(hub.step(PASS, Call::NewContext))?;
     if is_made(hub.step(PASS, register(context, address))) {
         Some(Lane::Own(context))
@@ -84,34 +70,15 @@ fn hub_lane(hub: &mut Hub<HostVerticle>, address: &'static str) -> Option<Lane>
     }
 }
 
-fn hub_exchange(
-    alloc: Global,
-    hub: &mut Hub<HostVerticle>,
-    lane: Lane,
-    address: &'static str,
-) -> bool
-    requires { 0 < hub.old.passes }
-    ensures { 0 < hub.new.passes }
-{
+fn hub_exchange(alloc: Global, hub: &mut Hub, lane: Lane, address: &'static str) -> bool {
     let sent = is_made(hub.step(PASS, send(alloc, address)));
-    let Taken { reply, verticle } = hub.take(PASS, lane);
-    let taken = is_task(reply);
-    if hub.gave_verticle(PASS) != verticle.is_some() {
-        return false;
-    }
-    let finished = hub.finish(PASS, done(verticle)).is_ok();
+    let taken = is_task(hub.take(PASS, lane));
+    let finished = hub.finish(PASS, End::Done).is_ok();
     sent && taken && finished
 }
 
 /// Sends messages through a hub, one after another: whether all calls were accepted.
-pub fn hub_exchange_many(
-    alloc: Global,
-    hub: &mut Hub<HostVerticle>,
-    address: &'static str,
-    count: u64,
-) -> bool
-    requires { 0 < hub.old.passes }
-{
+pub fn hub_exchange_many(alloc: Global, hub: &mut Hub, address: &'static str, count: u64) -> bool {
     let Some(lane) = hub_lane(hub, address) else {
         return false;
     };
@@ -123,7 +90,7 @@ pub fn hub_exchange_many(
 }
 
 /// A context of the pass.
-fn context<R: Wait>(rt: &R, host: &Host<HostVerticle>, pass: Pass<HostVerticle>) -> (Pass<HostVerticle>, Option<ContextId>)
+fn context<R: Wait>(rt: &R, host: &Host, pass: Pass) -> (Pass, Option<ContextId>)
     requires { place_of pass ≡ place host.now.shared }
     ensures { place_of result.0 ≡ place_of pass }
 {
@@ -132,7 +99,7 @@ fn context<R: Wait>(rt: &R, host: &Host<HostVerticle>, pass: Pass<HostVerticle>)
 }
 
 /// Makes a call: whether a consumer was registered, or a message was sent to one.
-fn make<R: Wait>(rt: &R, host: &Host<HostVerticle>, pass: Pass<HostVerticle>, call: Call) -> (Pass<HostVerticle>, bool)
+fn make<R: Wait>(rt: &R, host: &Host, pass: Pass, call: Call) -> (Pass, bool)
     requires place { place_of pass ≡ place host.now.shared }
     requires plain { is_plain call ≡ true }
     requires built { is_built call ≡ true }
@@ -143,7 +110,7 @@ fn make<R: Wait>(rt: &R, host: &Host<HostVerticle>, pass: Pass<HostVerticle>, ca
 }
 
 /// The lane of a context of the pass, with a consumer at an address.
-fn lane<R: Wait>(rt: &R, host: &Host<HostVerticle>, pass: Pass<HostVerticle>, address: &'static str) -> (Pass<HostVerticle>, Option<Lane>)
+fn lane<R: Wait>(rt: &R, host: &Host, pass: Pass, address: &'static str) -> (Pass, Option<Lane>)
     requires { place_of pass ≡ place host.now.shared }
     ensures { place_of result.0 ≡ place_of pass }
 {
@@ -159,31 +126,26 @@ fn lane<R: Wait>(rt: &R, host: &Host<HostVerticle>, pass: Pass<HostVerticle>, ad
 
 fn exchange<R: Wait + AllocGlobal>(
     rt: &R,
-    host: &Host<HostVerticle>,
-    pass: Pass<HostVerticle>,
+    host: &Host,
+    pass: Pass,
     lane: Lane,
     address: &'static str,
-) -> (Pass<HostVerticle>, bool)
+) -> (Pass, bool)
     requires { place_of pass ≡ place host.now.shared }
     ensures { place_of result.0 ≡ place_of pass }
 {
     let (pass, sent) = make(rt, host, pass, send(rt.alloc(), address));
     let (pass, taken) = host.take(rt, pass, lane);
-    let Taken { reply, verticle } = taken;
-    match &reply {
-        Reply::Task(_) => {
-            let (pass, finished) = host.finish(rt, pass, done(verticle));
-            (pass, sent && finished.is_ok())
-        }
-        _ => (pass, false),
-    }
+    let taken = is_task(taken);
+    let (pass, finished) = host.finish(rt, pass, End::Done);
+    (pass, sent && taken && finished.is_ok())
 }
 
 /// Sends messages through a host, one after another: whether all calls were accepted.
 pub fn exchange_many<R: Wait + AllocGlobal>(
     rt: &R,
-    host: &Host<HostVerticle>,
-    pass: Pass<HostVerticle>,
+    host: &Host,
+    pass: Pass,
     address: &'static str,
     count: u64,
 ) -> bool
@@ -198,8 +160,8 @@ pub fn exchange_many<R: Wait + AllocGlobal>(
 
 fn exchange_each<R: Wait + AllocGlobal>(
     rt: &R,
-    host: &Host<HostVerticle>,
-    mut pass: Pass<HostVerticle>,
+    host: &Host,
+    mut pass: Pass,
     lane: Lane,
     address: &'static str,
     count: u64,
@@ -218,9 +180,9 @@ fn exchange_each<R: Wait + AllocGlobal>(
 /// Two passes do so against each other, each on a thread.
 pub fn both<R: Threads + Wait + Sync + AllocGlobal>(
     rt: &R,
-    host: &Host<HostVerticle>,
-    one: Pass<HostVerticle>,
-    two: Pass<HostVerticle>,
+    host: &Host,
+    one: Pass,
+    two: Pass,
 ) -> bool
     requires one { place_of one ≡ place host.now.shared }
     requires two { place_of two ≡ place host.now.shared }

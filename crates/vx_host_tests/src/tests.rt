@@ -10,8 +10,6 @@ use std::thread::{Threads, join};
 use vx_call::{Call, End, Lane, Options, Refusal, Reply, Task, To, Unmade};
 use vx_data::{Body, BodyView, ContextId, EntryNo, PassNo, Text};
 use vx_host::{Host, Look, Pass, Totals};
-use vx_hub::{Back, Taken};
-use vx_kinds::HostVerticle;
 
 const CONTEXT: ContextId = ContextId {
     entry: EntryNo(0),
@@ -50,7 +48,7 @@ fn is_made(answer: Result<Reply, Unmade>) -> bool {
     )
 }
 
-fn make<R: Wait>(rt: &R, host: &Host<HostVerticle>, pass: Pass<HostVerticle>, call: Call) -> (Pass<HostVerticle>, bool)
+fn make<R: Wait>(rt: &R, host: &Host, pass: Pass, call: Call) -> (Pass, bool)
     requires place { place_of pass ≡ place host.now.shared }
     requires plain { is_plain call ≡ true }
     requires built { is_built call ≡ true }
@@ -61,7 +59,7 @@ fn make<R: Wait>(rt: &R, host: &Host<HostVerticle>, pass: Pass<HostVerticle>, ca
 }
 
 // Makes a context that has a consumer, and a second pass, whose number is 1.
-fn prepared<R: Wait>(rt: &R, host: &Host<HostVerticle>, pass: Pass<HostVerticle>) -> Option<(Pass<HostVerticle>, Pass<HostVerticle>)>
+fn prepared<R: Wait>(rt: &R, host: &Host, pass: Pass) -> Option<(Pass, Pass)>
     requires { place_of pass ≡ place host.now.shared }
     ensures one { IfSome result (λ two. place_of two.0 ≡ place host.now.shared) }
     ensures two { IfSome result (λ two. place_of two.1 ≡ place host.now.shared) }
@@ -75,7 +73,7 @@ fn prepared<R: Wait>(rt: &R, host: &Host<HostVerticle>, pass: Pass<HostVerticle>
 }
 
 // Sends the numbers from `first` on, and gives the pass back where each was sent to the consumer.
-fn send_many<R: Wait + AllocGlobal>(rt: &R, host: &Host<HostVerticle>, mut pass: Pass<HostVerticle>, first: i64) -> Option<Pass<HostVerticle>>
+fn send_many<R: Wait + AllocGlobal>(rt: &R, host: &Host, mut pass: Pass, first: i64) -> Option<Pass>
     requires { place_of pass ≡ place host.now.shared }
     ensures { IfSome result (λ after. place_of after ≡ place_of pass) }
 {
@@ -96,21 +94,21 @@ fn send_many<R: Wait + AllocGlobal>(rt: &R, host: &Host<HostVerticle>, mut pass:
 // Sends in two threads, and joins their passes.
 fn both<R: Threads + Wait + Sync + AllocGlobal>(
     rt: &R,
-    host: &Host<HostVerticle>,
-    one: Pass<HostVerticle>,
-    two: Pass<HostVerticle>,
-) -> Option<Pass<HostVerticle>>
+    host: &Host,
+    one: Pass,
+    two: Pass,
+) -> Option<Pass>
     requires one { place_of one ≡ place host.now.shared }
     requires two { place_of two ≡ place host.now.shared }
     ensures { IfSome result (λ after. place_of after ≡ place_of one) }
 {
     let (one, two) = join(
         rt,
-        || -> Option<Pass<HostVerticle>>
+        || -> Option<Pass>
             requires { place_of one ≡ place host.now.shared }
             ensures { IfSome result (λ after. place_of after ≡ place_of one) }
         { send_many(rt, host, one, 0) },
-        || -> Option<Pass<HostVerticle>>
+        || -> Option<Pass>
             requires { place_of two ≡ place host.now.shared }
             ensures { IfSome result (λ after. place_of after ≡ place_of two) }
         { send_many(rt, host, two, SENDS) },
@@ -137,27 +135,21 @@ fn number_in(reply: &Reply) -> Option<i64> {
 }
 
 // Takes a task and ends it, and answers the number of its message.
-fn take_number<R: Wait>(rt: &R, host: &Host<HostVerticle>, pass: Pass<HostVerticle>) -> (Pass<HostVerticle>, Option<i64>)
+fn take_number<R: Wait>(rt: &R, host: &Host, pass: Pass) -> (Pass, Option<i64>)
     requires { place_of pass ≡ place host.now.shared }
     ensures { place_of result.0 ≡ place_of pass }
 {
-    let (pass, Taken { reply, verticle }) = host.take(rt, pass, Lane::Own(CONTEXT));
+    let (pass, reply) = host.take(rt, pass, Lane::Own(CONTEXT));
     let number = number_in(&reply);
-    match &reply {
-        Reply::Task(_) => {
-            let back = Back {
-                verticle,
-                end: End::Done,
-            };
-            let (pass, ended) = host.finish(rt, pass, back);
-            (pass, if ended.is_ok() { number } else { None })
-        }
-        _ => (pass, None),
+    let (pass, ended) = host.finish(rt, pass, End::Done);
+    match ended {
+        Ok(()) => (pass, number),
+        Err(_) => (pass, None),
     }
 }
 
 // Takes the tasks of both threads, and answers how many of each came in the order in which they were sent.
-fn take_all<R: Wait>(rt: &R, host: &Host<HostVerticle>, mut pass: Pass<HostVerticle>) -> (Pass<HostVerticle>, (i64, i64))
+fn take_all<R: Wait>(rt: &R, host: &Host, mut pass: Pass) -> (Pass, (i64, i64))
     requires { place_of pass ≡ place host.now.shared }
     ensures { place_of result.0 ≡ place_of pass }
 {
@@ -188,8 +180,8 @@ fn totals(messages: u64, deliveries: u64) -> Totals {
 // thread's messages are taken in its order, and the totals then.
 fn sent_by_both<R: Threads + Wait + Sync + AllocGlobal>(
     rt: &R,
-    host: &Host<HostVerticle>,
-    pass: Pass<HostVerticle>,
+    host: &Host,
+    pass: Pass,
 ) -> Option<(u64, Totals, (i64, i64), Totals)>
     requires { place_of pass ≡ place host.now.shared }
 {
@@ -211,7 +203,7 @@ fn two_threads_of_100_sends(rt: HostRuntime) -> Result<(), Fail> {
 }
 
 // Makes a call where no other pass has its turn.
-fn is_made_at_once(host: &Host<HostVerticle>, pass: Pass<HostVerticle>, call: Call) -> bool
+fn is_made_at_once(host: &Host, pass: Pass, call: Call) -> bool
     requires place { place_of pass ≡ place host.now.shared }
     requires plain { is_plain call ≡ true }
     requires built { is_built call ≡ true }
@@ -226,23 +218,23 @@ fn is_made_at_once(host: &Host<HostVerticle>, pass: Pass<HostVerticle>, call: Ca
 }
 
 // Whether a Take of a lane that is not there is refused.
-fn misses<R: Wait>(rt: &R, host: &Host<HostVerticle>, pass: Pass<HostVerticle>) -> bool
+fn misses<R: Wait>(rt: &R, host: &Host, pass: Pass) -> bool
     requires { place_of pass ≡ place host.now.shared }
 {
     let lane = Lane::Own(ContextId {
         entry: EntryNo(1),
         instance: 0,
     });
-    let (_, taken) = host.take(rt, pass, lane);
-    matches!(&taken.reply, Reply::Refused(Refusal::NoLane))
+    let (_, reply) = host.take(rt, pass, lane);
+    matches!(&reply, Reply::Refused(Refusal::NoLane))
 }
 
 // What looks find once another pass has sent a number: a message that waits, with the number as it is taken, and nothing
 // then; no request is due.
 fn looks<R: Wait + AllocGlobal>(
     rt: &R,
-    host: &Host<HostVerticle>,
-    pass: Pass<HostVerticle>,
+    host: &Host,
+    pass: Pass,
 ) -> Option<(Look, Option<i64>, Look, Option<u64>)>
     requires { place_of pass ≡ place host.now.shared }
 {

@@ -1,7 +1,5 @@
 -- A hub may go from thread to thread.
-use denote.Param.Send.{IsSend, plain_send, sendable, view_send}
-use denote.RattleType.{RattleType}
-use denote.Param.SendFields.{declared_send}
+use denote.Param.Send.{IsSend, sendable}
 use Rattle.std.proofs.Crossing as std
 use Rattle.vx_data.proofs.body.Body.TheLaws.TheKnot as body
 use Rattle.vx_data.proofs.ids.MessageId.TheSendSync.{the_send as message_id}
@@ -16,19 +14,10 @@ use Rattle.vx_ring.proofs.rings.Rings.TheSendSync.{the_send as rings}
 use Rattle.vx_context.proofs.contexts.Contexts.TheSendSync.{the_send as contexts}
 use Rattle.vx_timer.proofs.timers.Timers.TheSendSync.{the_send as timers}
 use Rattle.vx_bus_store.specs.contracts.bus.Bus as bus
-use Rattle.vx_verticle.specs.declared.verticle.Verticle as Verticle
-use Rattle.vx_verticle.specs.declared.once.OnceRule as OnceRule
-use Rattle.vx_instances.proofs.instances.Instances.TheSendSync.{the_send as instances}
 use Rattle.vx_hub.specs.contracts.hub.Hub as hub
-use Rattle.vx_hub.specs.contracts.hub.Hub.TheInside as inside
-use Rattle.vx_hub.proofs.counts.Counts.TheSendSync.{the_send as counts}
 
 pub bus_send : IsSend bus.the_row
 bus_send = search (sendable, std.crosses, body.crosses, message_id, text, handler, given_out, requests, rings, codecs, rules) depth 30
 
--- a hub of verticles that may
-pub hub_send : (V R : RattleType) (verticle : Verticle.Ghosts V.Denot R.Denot) (rule : OnceRule.Ghosts R.Denot) → IsSend V → IsSend (hub.the_row V R verticle rule)
-hub_send V R verticle rule sends =
-    view_send (inside.the_row V R verticle rule) _ _ _ _
-    (declared_send (inside.the_type V R verticle rule)
-    (counts, (plain_send _ _ _ _ _, (moment, (contexts, (timers, (bus_send, (instances V R verticle rule sends, tt))))))))
+pub hub_send : IsSend hub.the_row
+hub_send = search (sendable, std.crosses, moment, contexts, timers, bus_send) depth 30

@@ -28,7 +28,7 @@ use Rattle.vx_call.specs.Kinds.{kind_of}
 use Rattle.vx_call.specs.Machine.{IsLegal}
 use Rattle.vx_call.specs.Names.{next_entry}
 use Rattle.vx_call.specs.States.{state_made, states_ended, state_kind, state_at}
-use Rattle.vx_call.proofs.Lasting.{lasting_none, lasting-append, lasting_same, lasting_more, and_false}
+use Rattle.vx_call.proofs.Lasting.{lasting-append, lasting_same, lasting_more, and_false}
 use Rattle.vx_call.proofs.Apart.{Apart, Apart-filter}
 use Rattle.vx_call.proofs.Contexts.{same_by_id, same_context-swap, same_context-true}
 use Rattle.vx_call.proofs.Filters.{filter_swap}
@@ -82,7 +82,7 @@ leaves_call history new still =
       states = λ id. ap (find (λ state. true)) (lasting_same (state_kind id) history new (if_none ok _ (none_stated id history new call still)) (λ state. ap (λ b. ok && b) (none_restated id history pass call still) ∙ and_false ok));
     }
 
-pub refused_same : {A : Type 0} (kind : Kind A) (history : List Traced) (new : Traced) → is_accepted new.entry.reply ≡ false → lasting kind (history ++ new ∷ []) ≡ lasting kind history
+refused_same : {A : Type 0} (kind : Kind A) (history : List Traced) (new : Traced) → is_accepted new.entry.reply ≡ false → lasting kind (history ++ new ∷ []) ≡ lasting kind history
 refused_same kind history new refused = lasting_same kind history new (ap (λ b. cond b (kind.made history new) []) refused) (λ x. ap (λ b. b && kind.ended history new x) refused)
 
 leaves_refused : (history : List Traced) (new : Traced) → is_accepted new.entry.reply ≡ false → Leaves history new
@@ -147,10 +147,6 @@ verticles_left history new ok no_deploy no_close =
     ∙ filter_agree (λ (c : Context). not (closes history pass call c.id)) (λ (c : Context). not (is_of_context c.id (closing_by history pass call))) (λ c. ap not (closes_one history pass call c.id no_close)) (verticles history)
 
 -- ## Entries that leave what runs, and each state
-
--- at first none is there
-pub none_at_first : [] ≡ instances []
-none_at_first = ap (λ cs. map (kept_of []) (filter is_of_verticle cs)) (sym (lasting_none open_context_kind))
 
 -- a refused entry changes nothing
 pub refused_row : (history : List Traced) (new : Traced) → is_accepted new.entry.reply ≡ false → instances (history ++ new ∷ []) ≡ instances history

@@ -1,6 +1,6 @@
 -- The calls that instructions begin with, and the instructions that the hub makes so far. (This project's own.)
 use Rattle.std.specs.Prelude.{Bool, true, false}
-use Rattle.vx_call.specs.Built.{is_stored}
+use Rattle.vx_call.specs.Built.{is_built}
 use Rattle.vx_call.specs.declared.call.Call.{Call}
 use Rattle.vx_call.specs.declared.call.Call.TheVariants as calls
 use Rattle.vx_line.specs.declared.instruction.Instruction.{Instruction}
@@ -14,8 +14,9 @@ first_call (does.Take lane) = calls.Take lane
 first_call (does.Finish end) = calls.Finish end
 first_call (does.Work lane) = calls.Take lane
 
--- all but those that work: calls that it makes, those that deploy, take a task, and end one
+-- calls that it makes, and those that take a task and end one
 abbrev pub is_made : Instruction → Bool
-is_made (does.Call call) = is_stored call
-is_made (does.Work lane) = false
-is_made _ = true
+is_made (does.Call call) = is_built call
+is_made (does.Take lane) = true
+is_made (does.Finish end) = true
+is_made _ = false

@@ -1,28 +1,39 @@
 -- What a script's lines add to a history where verticles are deployed and work, over the kinds that a maker knows. It is the
 -- definition for the hub that takes verticles; so far no line deploys or works. (This project's own.)
 use Rattle.std.specs.Prelude.{◌≡◌, ◌⊎◌, ℤ, Bool, true, false, List, [], ◌∷◌, ◌++◌, length, All}
+use Rattle.std.specs.Option.{option_to_list, option_and_then}
 use Rattle.std.specs.List.{enumerate_from}
 use Rattle.vx_data.specs.declared.ids.PassNo.{PassNo}
 use Rattle.vx_message.specs.declared.Lane.{Lane}
+use Rattle.vx_call.specs.declared.call.Call.{Call}
 use Rattle.vx_call.specs.declared.call.Call.TheVariants as calls
 use Rattle.vx_call.specs.declared.call.End.TheVariants as ends
 use Rattle.vx_call.specs.declared.reply.Reply.{Reply}
 use Rattle.vx_call.specs.declared.reply.Reply.TheVariants as replies
 use Rattle.vx_call.specs.declared.history.Traced.{Traced}
-use Rattle.vx_call.specs.Machine.{answer, IsLegal}
+use Rattle.vx_call.specs.Held.{held_context}
+use Rattle.vx_call.specs.Machine.{answer, extended_with, IsLegal}
 use Rattle.vx_call.specs.Runs.{played}
+use Rattle.vx_call.specs.States.{state_at}
 use Rattle.vx_verticle.specs.declared.verticle.ActResult.TheVariants as outcomes
 use Rattle.vx_verticle.specs.Played.{Meaning, Played}
 use Rattle.vx_line.specs.declared.command.Command.{Command}
 use Rattle.vx_line.specs.declared.instruction.Instruction.{Instruction}
 use Rattle.vx_line.specs.declared.instruction.Instruction.TheVariants as does
 use Rattle.vx_line.specs.Made.{first_call}
-use Rattle.vx_script.specs.Playing.{played_with, state_held}
 
 -- whether a Take gave a task
 abbrev pub gave_task : Reply → Bool
 gave_task (replies.Task task) = true
 gave_task _ = false
+
+-- the state of the verticle whose handler task a pass holds: none of another has changed it since the task was taken
+abbrev pub state_held : List Traced → PassNo → List (List ℤ)
+state_held before pass = option_to_list (option_and_then (state_at before) (held_context before pass))
+
+-- the history after a call that comes with these states, with the machine's reply
+abbrev pub played_with : List Traced → PassNo → Call → List (List ℤ) → List Traced
+played_with before pass call states = extended_with before pass call (answer before pass call) states
 
 module _ {R : Type 0} (m : Meaning R) where
   -- The history grows by a played stretch, in which no memory ran out.

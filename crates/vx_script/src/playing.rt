@@ -1,39 +1,42 @@
 //! Making the calls of a script, and writing a line for each reply.
-ghost use Rattle.std.specs.Prelude.{◌≡◌, ◌≤◌, ◌<◌, List, [], length, map, replicate, unwrap_or, IfOk, OnOk, OnErr, IsErrOf, IsTrue};
+ghost use Rattle.std.specs.Prelude.{◌≡◌, ◌≤◌, ◌<◌, List, [], length, IfOk, OnOk, OnErr, IsErrOf, IsTrue};
 ghost use Rattle.std.specs.Io.KnownBytes.{Appends};
 ghost use Rattle.vx_call.specs.declared.history.Traced.{Traced};
-ghost use Rattle.vx_call.specs.Built.{is_stored};
+ghost use Rattle.vx_call.specs.Built.{is_built};
 ghost use Rattle.vx_call.specs.Machine.{answer};
 ghost use Rattle.vx_call.specs.Passes.{passes};
 ghost use Rattle.vx_call.specs.Plain.{is_plain};
-ghost use Rattle.vx_kinds.specs.Hosts.{first_state};
-ghost use Rattle.vx_hub.specs.Stands.{Answered, StandsFor, Meets, Keeps};
+ghost use Rattle.vx_call.specs.Runs.{played};
+ghost use Rattle.vx_hub.specs.Stands.{StandsFor, Meets, Keeps};
 ghost use Rattle.vx_io.specs.Faults.{Rose};
 ghost use Rattle.vx_io.specs.Writing.{AppendsFront};
 ghost use Rattle.vx_line.specs.Made.{first_call, is_made};
 ghost use Rattle.vx_script.specs.Lines.{AreThere, AreMade};
-ghost use Rattle.vx_script.specs.Playing.{behind, deploys_so_many, history_of, state_held, states_with};
+ghost use Rattle.vx_script.specs.Playing.{history_of};
 ghost use Rattle.vx_reply_text.specs.Replies.{reply_line, text};
 
-use crate::held::HeldVerticles;
 use crate::limit::LIMIT;
 use std::alloc::Global;
 use vx_call::{Call, End, Reply};
 use vx_data::{EntryNo, NoMemory, PassNo};
-use vx_hub::{Back, DeployOptions, Hub, Why};
+use vx_hub::Hub;
 use vx_io::{Sink, SinkFault, write_all};
-use vx_kinds::{HostKinds, HostVerticle};
 use vx_line::{Command, Instruction};
-use vx_message::{KindSpec, Lane};
 use vx_reply_text::write_reply;
-use vx_verticle::Kinds;
 
-/// Makes a plain call.
-fn step(hub: &mut Hub<HostVerticle>, pass: PassNo, call: Call) -> Result<Reply, NoMemory>
-    requires known { pass.0 < hub.old.passes }
+fn finish(hub: &mut Hub, pass: PassNo, end: End) -> Reply
+    ensures { Meets hub.old hub.new pass (Call.Finish end) result }
+{
+    match hub.finish(pass, end) {
+        Ok(()) => Reply::Done,
+        Err(refusal) => Reply::Refused(refusal),
+    }
+}
+
+fn step(hub: &mut Hub, pass: PassNo, call: Call) -> Result<Reply, NoMemory>
     requires plain { IsTrue (is_plain call) }
-    requires stored { IsTrue (is_stored call) }
-    ensures reply { IfOk result (λ reply. Meets hub.old hub.new pass call reply []) }
+    requires built { IsTrue (is_built call) }
+    ensures reply { IfOk result (λ reply. Meets hub.old hub.new pass call reply) }
     ensures err { OnErr result (Keeps hub.old hub.new) }
 {
     match hub.step(pass, call) {
@@ -42,112 +45,31 @@ fn step(hub: &mut Hub<HostVerticle>, pass: PassNo, call: Call) -> Result<Reply, 
     }
 }
 
-/// So many verticles of a kind. Memory may run out.
-fn make_verticles(
-    alloc: Global,
-    spec: &KindSpec,
-    instances: u32,
-) -> Result<Vec<HostVerticle>, NoMemory>
-    ensures { IfOk result (λ verticles. map HostVerticle.state verticles.items ≡ replicate instances (unwrap_or (first_state spec.now) [])) }
-{
-    let mut kinds = HostKinds::new(alloc);
-    let mut verticles = Vec::new(alloc);
-    for _ in 0..instances {
-        verticles.push(kinds.make(spec).map_err(|_| NoMemory)?)?;
-    }
-    Ok(verticles)
-}
-
-/// Has verticles deployed by a call that deploys.
-fn deploy(
-    hub: &mut Hub<HostVerticle>,
-    pass: PassNo,
-    call: Call,
-    verticles: Vec<HostVerticle>,
-) -> Result<Reply, NoMemory>
-    requires known { pass.0 < hub.old.passes }
-    requires deploys { deploys_so_many call (length verticles.items) ≡ true }
-    ensures reply { IfOk result (λ reply. Meets hub.old hub.new pass call reply (map HostVerticle.state verticles.items)) }
+/// Makes a call of a pass, and gives the reply.
+fn make_call(hub: &mut Hub, pass: PassNo, call: Call) -> Result<Reply, NoMemory>
+    requires { IsTrue (is_built call) }
+    ensures reply { IfOk result (λ reply. Meets hub.old hub.new pass call reply) }
     ensures err { OnErr result (Keeps hub.old hub.new) }
 {
-    let options = match call {
-        Call::Deploy {
-            worker,
-            pool,
-            tell,
-            count: _,
-        } => DeployOptions { worker, pool, tell },
+    if call.plain() {
+        return step(hub, pass, call);
+    }
+    let reply = match &call {
+        Call::Take(lane) => hub.take(pass, *lane),
+        Call::Finish(end) => finish(hub, pass, *end),
         _ => unreachable!(),
     };
-    match hub.deploy(pass, options, verticles) {
-        Ok(id) => Ok(Reply::Deployment(id)),
-        Err(refused) => match refused.why {
-            Why::Refused(why) => Ok(Reply::Refused(why)),
-            Why::NoMemory => Err(NoMemory),
-        },
-    }
+    call.let_go();
+    Ok(reply)
 }
 
-/// Takes the next task of a lane, and keeps the verticle that comes with it.
-fn take(
-    hub: &mut Hub<HostVerticle>,
-    held: &mut HeldVerticles,
-    pass: PassNo,
-    lane: Lane,
-) -> Result<Reply, NoMemory>
-    requires known { pass.0 < hub.old.passes }
-    ensures reply { IfOk result (λ reply. Meets hub.old hub.new pass (Call.Take lane) reply []) }
+/// Has an instruction of a pass done, which is one call so far, and gives the reply.
+fn make(hub: &mut Hub, pass: PassNo, instruction: Instruction) -> Result<Reply, NoMemory>
+    requires { IsTrue (is_made instruction) }
+    ensures reply { IfOk result (λ reply. Meets hub.old hub.new pass (first_call instruction) reply) }
     ensures err { OnErr result (Keeps hub.old hub.new) }
 {
-    held.reserve()?;
-    let taken = hub.take(pass, lane);
-    if let Some(verticle) = taken.verticle {
-        held.keep(pass, verticle)?;
-    }
-    Ok(taken.reply)
-}
-
-/// Ends the task of a pass, whose verticle goes back as it was taken.
-fn finish(
-    hub: &mut Hub<HostVerticle>,
-    held: &mut HeldVerticles,
-    pass: PassNo,
-    end: End,
-) -> Reply
-    requires known { pass.0 < hub.old.passes }
-    ensures { (history : List Traced) → StandsFor hub.old history → pass.0 < passes history → Answered hub.new history pass (Call.Finish end) result (state_held history pass) }
-{
-    let verticle = held.give_back(pass);
-    match hub.finish(pass, Back { verticle, end }) {
-        Ok(()) => Reply::Done,
-        Err(refused) => Reply::Refused(refused.why),
-    }
-}
-
-/// Has an instruction of a pass done, which is one call, and gives the reply.
-fn make(
-    alloc: Global,
-    hub: &mut Hub<HostVerticle>,
-    held: &mut HeldVerticles,
-    pass: PassNo,
-    instruction: Instruction,
-) -> Result<Reply, NoMemory>
-    requires known { pass.0 < hub.old.passes }
-    requires made { IsTrue (is_made instruction) }
-    ensures reply { IfOk result (λ reply. (history : List Traced) → StandsFor hub.old history → pass.0 < passes history → Answered hub.new history pass (first_call instruction) reply (states_with history pass instruction)) }
-    ensures err { OnErr result (Keeps hub.old hub.new) }
-{
-    match &instruction {
-        Instruction::Take(lane) => take(hub, held, pass, *lane),
-        Instruction::Finish(end) => Ok(finish(hub, held, pass, *end)),
-        Instruction::Deploy {
-            spec, instances, ..
-        } => {
-            let verticles = make_verticles(alloc, spec, *instances)?;
-            deploy(hub, pass, instruction.into_first_call(), verticles)
-        }
-        _ => step(hub, pass, instruction.into_first_call()),
-    }
+    make_call(hub, pass, instruction.into_first_call())
 }
 
 /// Writes the line of a reply. The sink has all of it after an `Ok`, and a front of it else.
@@ -173,22 +95,20 @@ fn write_one<K: Sink>(
 /// front of it else.
 fn make_one<K: Sink>(
     alloc: Global,
-    hub: &mut Hub<HostVerticle>,
-    held: &mut HeldVerticles,
+    hub: &mut Hub,
     at: EntryNo,
     command: Command,
     sink: &mut K,
 ) -> Result<(), SinkFault>
-    requires known { command.pass.0 < hub.old.passes }
-    requires made { IsTrue (is_made command.instruction) }
-    ensures goes { OnOk result ((history : List Traced) → StandsFor hub.old history → command.pass.0 < passes history → StandsFor hub.new (behind history command)) }
+    requires { IsTrue (is_made command.instruction) }
+    ensures goes { OnOk result ((history : List Traced) → StandsFor hub.old history → command.pass.0 < passes history → StandsFor hub.new (played history command.pass (first_call command.instruction))) }
     ensures written { OnOk result ((history : List Traced) → StandsFor hub.old history → command.pass.0 < passes history → Appends (K.held sink.old) (K.held sink.new) (reply_line at (answer history command.pass (first_call command.instruction)))) }
     ensures err { OnErr result ((history : List Traced) → StandsFor hub.old history → command.pass.0 < passes history → AppendsFront (K.held sink.old) (K.held sink.new) (reply_line at (answer history command.pass (first_call command.instruction)))) }
     ensures later { K.faults sink.old ≤ K.faults sink.new }
     ensures cause { IsErrOf result SinkFault.Failed → Rose (K.faults sink.old) (K.faults sink.new) }
 {
     let (pass, instruction) = command.into_parts();
-    match make(alloc, hub, held, pass, instruction) {
+    match make(hub, pass, instruction) {
         Ok(reply) => {
             let written = write_one(alloc, at, &reply, sink);
             reply.let_go();
@@ -201,7 +121,7 @@ fn make_one<K: Sink>(
 /// Makes all calls on a hub that made none before.
 fn make_all<K: Sink>(
     alloc: Global,
-    hub: &mut Hub<HostVerticle>,
+    hub: &mut Hub,
     commands: Vec<Command>,
     sink: &mut K,
 ) -> Result<(), SinkFault>
@@ -214,10 +134,9 @@ fn make_all<K: Sink>(
     ensures later { K.faults sink.old ≤ K.faults sink.new }
     ensures cause { IsErrOf result SinkFault.Failed → Rose (K.faults sink.old) (K.faults sink.new) }
 {
-    let mut held = HeldVerticles::new(alloc);
     let mut at = 0u64;
     for command in commands {
-        make_one(alloc, hub, &mut held, EntryNo(at), command, sink)?;
+        make_one(alloc, hub, EntryNo(at), command, sink)?;
         at += 1;
     }
     Ok(())
@@ -233,6 +152,6 @@ pub fn play<K: Sink>(alloc: Global, commands: Vec<Command>, sink: &mut K) -> Res
     ensures later { K.faults sink.old ≤ K.faults sink.new }
     ensures cause { IsErrOf result SinkFault.Failed → Rose (K.faults sink.old) (K.faults sink.new) }
 {
-    let mut hub: Hub<HostVerticle> = Hub::new(alloc);
+    let mut hub = Hub::new(alloc);
     make_all(alloc, &mut hub, commands, sink)
 }

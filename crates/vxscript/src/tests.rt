@@ -36,17 +36,8 @@ fn bad(line: u64, why: LineWhy) -> Status {
 }
 
 /// Scripts whose lines are all good, with the lines that they write. A `/` stands for a newline.
-static GOOD: [(&str, &str); 41] = [
+static GOOD: [(&str, &str); 38] = [
     ("", ""),
-    (
-        "context/deploy +tell:0 silent s 2/take loop 0/finish/take loop 1/finish fail 7/take loop 1/take loop 0/finish/take own 0",
-        "context 0/deployment 1/start 1/ok/start 1.1/ok/idle/stop 1/ok/deployend 1 fail 7/",
-    ),
-    (
-        "close/context/take pool/close",
-        "ok/refused 28 host closed 0/stopped/refused 28 host closed 0/",
-    ),
-    ("take loop 16", "refused 8 no lane/"),
     ("finish", "refused 5 not holding/"),
     ("send news 1/", "sent 0 to none/"),
     (
@@ -203,7 +194,7 @@ static GOOD: [(&str, &str); 41] = [
 ];
 
 /// Bad scripts, with the first line in no form, and why. A `/` stands for a newline.
-static BAD: [(&str, u64, LineWhy); 88] = [
+static BAD: [(&str, u64, LineWhy); 93] = [
     ("context/foo", 2, LineWhy::Word),
     ("context/pass 1", 2, LineWhy::Form),
     ("context\r//# fine/context 1/foo", 4, LineWhy::Form),
@@ -222,8 +213,9 @@ static BAD: [(&str, u64, LineWhy); 88] = [
     ("@1", 1, LineWhy::Pass),
     ("@0", 1, LineWhy::Word),
     ("@0 @0 pass", 1, LineWhy::Word),
-    ("@0 loops", 1, LineWhy::Form),
-    ("close 1", 1, LineWhy::Form),
+    ("@0 loops", 1, LineWhy::Unbuilt),
+    ("close 1", 1, LineWhy::Unbuilt),
+    ("pool p 1", 1, LineWhy::Unbuilt),
     ("register +x +limit:", 1, LineWhy::Form),
     ("register +limit 0 a", 1, LineWhy::Form),
     ("register +limit:x 0 a", 1, LineWhy::Form),
@@ -266,10 +258,14 @@ static BAD: [(&str, u64, LineWhy); 88] = [
     ("rule out has:a add:b", 1, LineWhy::Form),
     ("rule in any stop 1", 1, LineWhy::Form),
     ("unrule +1", 1, LineWhy::Form),
-    ("take named e", 1, LineWhy::Form),
+    ("take loop 1", 1, LineWhy::Unbuilt),
+    ("take pool", 1, LineWhy::Unbuilt),
+    ("take named e", 1, LineWhy::Unbuilt),
     ("take +x loop 0", 1, LineWhy::Form),
     ("take own", 1, LineWhy::Form),
     ("take any 0", 1, LineWhy::Form),
+    ("finish later", 1, LineWhy::Unbuilt),
+    ("finish nomemory", 1, LineWhy::Unbuilt),
     ("finish all", 1, LineWhy::Form),
     ("register 18446744073709551616 a", 1, LineWhy::Form),
     ("register 000000000000000000001 a", 1, LineWhy::Form),

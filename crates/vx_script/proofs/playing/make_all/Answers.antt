@@ -1,4 +1,4 @@
-use Rattle.std.proofs.Common.{ℕ, ◌<◌, ◌^◌, List, subst, sym, arith}
+use Rattle.std.proofs.Common.{◌<◌, ◌^◌, List, subst, sym, arith}
 use Rattle.std.proofs.lemmas.Result.{err_from_is_err_and}
 use Rattle.std.specs.Vec.Iter.{into_iter_items}
 use Rattle.vx_hub.specs.Stands.{StandsFor}
@@ -8,15 +8,7 @@ use Rattle.vx_script.proofs.Histories.{Goes, begins_all, cut_off, one_more}
 use Rattle.vx_script.proofs.playing.make_all.Goals as goal
 
 pub make_one-requires : goal.make_one-requires
-make_one-requires g c =
-    let goes = subst
-    (λ (v : List Command). Goes (StandsFor c.loop-command.hub) (g.K.Sink.held c.args.sink.now) (g.K.Sink.held c.loop-command.sink) c.loop-command.at v c.args.commands.items)
-    c.in-Some.ensures.steps.0 c.loop-command.invariant.goes in
-    let P : ℕ → Type 0 = λ n. c.in-Some.command.pass.0 < n in
-    record {
-      known = subst P (sym goes.stands.parts.parts.passes) goes.there.0;
-      made = (subst AreMade c.in-Some.ensures.steps.0 c.loop-command.invariant.built).0;
-    }
+make_one-requires g c = (subst AreMade c.in-Some.ensures.steps.0 c.loop-command.invariant.built).0
 
 pub returns-in_err-make_one-clause-err : goal.returns-in_err-make_one-clause-err
 returns-in_err-make_one-clause-err g c =

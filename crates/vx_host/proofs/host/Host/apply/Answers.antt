@@ -1,4 +1,3 @@
-use Rattle.std.proofs.Common.{[]}
 use Rattle.std.proofs.lemmas.Result.{IfOk-weaker}
 use Rattle.vx_turn.specs.Passes.{caller, caller_in}
 use Rattle.vx_host.specs.Calls.{Called}
@@ -12,4 +11,4 @@ returns-clause-called g c =
     let after = caller c.apply_in.result.pass in
     let came = c.enter-turn.ensures.came in
     let same = c.enter-turn.ensures.entries in
-    IfOk-weaker c.apply_in.result.result (λ reply. Called turn c.args.call reply [] after) (λ reply. Called before c.args.call reply [] after) (λ reply called. called_since before turn after c.args.call reply [] came same called) c.apply_in.ensures.called
+    IfOk-weaker c.apply_in.result.result (λ reply. Called turn c.args.call reply after) (λ reply. Called before c.args.call reply after) (λ reply called. called_since before turn after c.args.call reply came same called) c.apply_in.ensures.called
