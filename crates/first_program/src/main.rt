@@ -1,11 +1,14 @@
 //! A first program with the library: a context with one consumer, a message for it, and its handler.
 #![tactic(auto)]
 
+ghost use Rattle.std.specs.Prelude.{◌<◌};
+
 use std::alloc::Global;
 use std::io;
 use vx_call::{Call, End, Lane, Options, Reply, Task, To, Unmade};
 use vx_data::{Body, BodyView, ContextId, PassNo, Text};
-use vx_hub::Hub;
+use vx_hub::{Back, Hub, Taken};
+use vx_kinds::HostVerticle;
 
 /// The one caller.
 const PASS: PassNo = PassNo(0);
@@ -27,7 +30,10 @@ fn is_made(answer: Result<Reply, Unmade>) -> bool {
 }
 
 /// Makes a context with a consumer, and answers the context.
-fn set_up(hub: &mut Hub) -> Option<ContextId> {
+fn set_up(hub: &mut Hub<HostVerticle>) -> Option<ContextId>
+    requires { 0 < hub.old.passes }
+    ensures { 0 < hub.new.passes }
+{
     let context = context_in(hub.step(PASS, Call::NewContext))?;
     let register = Call::Register {
         context,
@@ -38,7 +44,10 @@ fn set_up(hub: &mut Hub) -> Option<ContextId> {
 }
 
 /// Sends a number to the consumer: whether it was sent there.
-fn send(hub: &mut Hub, alloc: Global, number: i64) -> bool {
+fn send(hub: &mut Hub<HostVerticle>, alloc: Global, number: i64) -> bool
+    requires { 0 < hub.old.passes }
+    ensures { 0 < hub.new.passes }
+{
     let send = Call::Send {
         address: Text::constant("news"),
         body: Body::int(number),
@@ -64,14 +73,30 @@ fn handler(reply: Reply) -> Option<i64> {
 }
 
 /// Takes the next task of the context, runs its handler, and ends the task, so that the next handler may run.
-fn run_once(hub: &mut Hub, context: ContextId) -> Option<i64> {
-    let came = handler(hub.take(PASS, Lane::Own(context)));
-    hub.finish(PASS, End::Done).ok()?;
+fn run_once(hub: &mut Hub<HostVerticle>, context: ContextId) -> Option<i64>
+    requires { 0 < hub.old.passes }
+{
+    let Taken {
+        reply,
+        verticle,
+        ..
+    } = hub.take(PASS, Lane::Own(context));
+    let came = handler(reply);
+    if hub.gave_verticle(PASS) != verticle.is_some() {
+        return None;
+    }
+    let back = Back {
+        verticle,
+        end: End::Done,
+    };
+    hub.finish(PASS, back).ok()?;
     came
 }
 
 /// Sends a number, and answers the one that the handler got.
-fn exchange(hub: &mut Hub, alloc: Global, number: i64) -> Option<i64> {
+fn exchange(hub: &mut Hub<HostVerticle>, alloc: Global, number: i64) -> Option<i64>
+    requires { 0 < hub.old.passes }
+{
     let context = set_up(hub)?;
     if send(hub, alloc, number) {
         run_once(hub, context)
@@ -80,12 +105,14 @@ fn exchange(hub: &mut Hub, alloc: Global, number: i64) -> Option<i64> {
     }
 }
 
+/// Does so on a hub of its own. No other function lets go of a hub, which is dear to prove.
+fn exchange_alone(alloc: Global, number: i64) -> Option<i64> {
+    let mut hub: Hub<HostVerticle> = Hub::new(alloc);
+    exchange(&mut hub, alloc, number)
+}
+
 fn main(rt: HostRuntime) -> io::Result<()> {
-    let came = {
-        let mut hub = Hub::new(rt.alloc());
-        exchange(&mut hub, rt.alloc(), 7)
-    };
-    match came {
+    match exchange_alone(rt.alloc(), 7) {
         Some(number) => println!(rt; "the handler got {number}"),
         None => println!(rt; "a call was refused, or memory ran out"),
     }

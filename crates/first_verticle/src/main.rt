@@ -1,79 +1,73 @@
-//! A verticle of one's own, and two events that it handles.
+//! A verticle of one's own on a hub: it is deployed, and a customer buys of it until nothing is left.
 #![tactic(auto)]
 
+ghost use Rattle.std.specs.Prelude.{◌<◌};
+
+mod fault;
+mod market;
+mod serving;
 mod shop;
 
+use crate::fault::Fault;
+use crate::market::{hear, open, order};
+use crate::serving::serve;
 use crate::shop::Shop;
 use std::alloc::Global;
-use std::io;
-use vx_data::{Body, ConsumerId, ContextId, EntryNo, Headers, MessageId, Text};
-use vx_message::Message;
-use vx_verticle::{Act, Acts, End, Event, NoOnce, PlainAct, Task, Verticle};
+use vx_data::{BodyView, ContextId};
+use vx_hub::Hub;
+use vx_message::Outcome;
 
-/// The context on which the shop would be deployed.
-const CONTEXT: ContextId = ContextId {
-    entry: EntryNo(0),
-    instance: 0,
-};
-
-/// The deployment has the shop start.
-fn start() -> Event {
-    Event {
-        context: CONTEXT,
-        task: Task::Start(CONTEXT),
-    }
+/// The customer buys a piece: what the customer hears of the shop.
+fn buy(hub: &mut Hub<Shop>, alloc: Global, customer: ContextId) -> Result<Outcome, Fault>
+    requires { 0 < hub.old.passes }
+    ensures { 0 < hub.new.passes }
+{
+    order(hub, alloc, customer)?;
+    serve(hub, alloc)?;
+    hear(hub, customer)
 }
 
-/// Somebody sends a request to the shop.
-fn order(alloc: Global) -> Event {
-    let message = Message {
-        id: MessageId(EntryNo(3)),
-        address: Text::constant("shop"),
-        headers: Headers::empty(alloc),
-        body: Body::null(),
-        request: true,
-        publish: false,
-    };
-    Event {
-        context: CONTEXT,
-        task: Task::Deliver {
-            consumer: ConsumerId(EntryNo(2)),
-            message,
+/// How many pieces a reply says are left.
+fn left_in(outcome: &Outcome) -> Option<i64> {
+    match outcome {
+        Outcome::Ok { body, .. } => match body.view() {
+            BodyView::Int(left) => Some(left),
+            _ => None,
         },
+        Outcome::Failed(_) => None,
     }
 }
 
-/// What an act is, in a word.
-fn word_of(act: &Act<NoOnce>) -> &'static str {
-    match act {
-        Act::Plain(PlainAct::Register { .. }) => "register",
-        Act::Plain(PlainAct::Reply { .. }) => "reply",
-        Act::Plain(PlainAct::Fail { .. }) => "fail",
-        _ => "another act",
+/// Says what the customer heard.
+fn say(rt: &impl Print, outcome: &Outcome) -> anyhow::Result<()> {
+    match (left_in(outcome), outcome) {
+        (Some(left), _) => println!(rt; "sold, {left} left")?,
+        (None, Outcome::Failed(failure)) => {
+            println!(rt; "failed with {}: {}", failure.code, failure.text.as_str())?
+        }
+        (None, Outcome::Ok { .. }) => println!(rt; "sold")?,
     }
+    Ok(())
 }
 
-/// Has the shop handle an event: its first act.
-fn first_act(alloc: Global, shop: &mut Shop, event: &Event) -> Option<&'static str> {
-    let mut acts = Acts::new(alloc);
-    match shop.handle(event, &mut acts) {
-        End::Done => Some(word_of(acts.into_items().first()?)),
-        _ => None,
-    }
+/// The customer buys twice at a shop with one piece: what the customer hears each time.
+fn trade(hub: &mut Hub<Shop>, alloc: Global) -> Result<(Outcome, Outcome), Fault>
+    requires { 0 < hub.old.passes }
+{
+    let customer = open(hub, alloc, 1)?;
+    let first = buy(hub, alloc, customer)?;
+    let second = buy(hub, alloc, customer)?;
+    Ok((first, second))
 }
 
-/// A word, or one that says that there is none.
-fn shown(word: Option<&'static str>) -> &'static str {
-    word.unwrap_or("nothing")
+/// Has the trade on a hub of its own.
+fn trade_alone(alloc: Global) -> Result<(Outcome, Outcome), Fault> {
+    let mut hub: Hub<Shop> = Hub::new(alloc);
+    trade(&mut hub, alloc)
 }
 
-fn main(rt: HostRuntime) -> io::Result<()> {
-    let alloc = rt.alloc();
-    let mut shop = Shop::new(alloc, 1);
-    let started = first_act(alloc, &mut shop, &start());
-    println!(rt; "start: {}", shown(started))?;
-    let sold = first_act(alloc, &mut shop, &order(alloc));
-    println!(rt; "request: {}", shown(sold))?;
-    let refused = first_act(alloc, &mut shop, &order(alloc));
-    println!(rt; "request: {}", shown(refused))
+fn main(rt: HostRuntime) -> anyhow::Result<()> {
+    let (first, second) = trade_alone(rt.alloc())?;
+    say(&rt, &first)?;
+    say(&rt, &second)
 }

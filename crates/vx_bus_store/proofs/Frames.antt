@@ -1,6 +1,6 @@
 -- Entries that leave a store: one lemma a store, and one for each part that an entry may leave alone.
 use Rattle.std.proofs.Common.{◌≡◌, ℕ, List, [], ◌∷◌, ◌++◌, refl, ap, sym, ◌∙◌}
-use Rattle.std.specs.Prelude.{Bool, true, false, not, ◌&&◌, ◌||◌, filter, find, map, Option}
+use Rattle.std.specs.Prelude.{ℤ, Bool, true, false, not, ◌&&◌, ◌||◌, filter, find, map, Option}
 use Rattle.std.specs.List.{count_by}
 use Rattle.std.specs.Option.{option_map}
 use Rattle.std.specs.Str.{bytes_eq}
@@ -23,7 +23,7 @@ use Rattle.vx_call.specs.declared.reply.Reply.TheVariants as replies
 use Rattle.vx_call.specs.declared.reply.Task.{Task}
 use Rattle.vx_call.specs.declared.history.Consumer.{Consumer}
 use Rattle.vx_call.specs.declared.history.Traced.{Traced}
-use Rattle.vx_call.specs.History.{made_by, ended_by, is_accepted, plain_entry, no_mark}
+use Rattle.vx_call.specs.History.{made_by, ended_by, is_accepted, entry_of, plain_entry, no_mark}
 use Rattle.vx_call.specs.declared.history.Mark.{Mark}
 use Rattle.vx_call.specs.Built.{is_stored, IsStored, AreStored}
 use Rattle.vx_call.specs.Connections.{is_one_of}
@@ -255,38 +255,44 @@ bus_left store history new stored leaves stands = record {
 -- ## Refusals
 
 -- a refused call leaves the contexts
-pub refused_contexts : (store : ContextStore) (history : List Traced) (pass : PassNo) (call : Call) (refusal : Refusal) → ContextsStand store history →
-    ContextsStand store (history ++ plain_entry pass call (replies.Refused refusal) no_mark ∷ [])
-refused_contexts store history pass call refusal stands = contexts_left store history (plain_entry pass call (replies.Refused refusal) no_mark)
+pub refused_contexts : (store : ContextStore) (history : List Traced) (pass : PassNo) (call : Call) (refusal : Refusal) (states : List (List ℤ)) → ContextsStand store history →
+    ContextsStand store (history ++ entry_of pass call (replies.Refused refusal) states no_mark ∷ [])
+refused_contexts store history pass call refusal states stands = contexts_left store history (entry_of pass call (replies.Refused refusal) states no_mark)
     (record { closings = refl; items = record { contexts = refl; queued = refl }; pools = refl; held = refl; finished = λ h. refl; waiting = record { none = refl; kept = λ w. refl } }) stands
 
 -- ... and the bus
-pub refused_bus : (history : List Traced) (pass : PassNo) (call : Call) (refusal : Refusal) → LeavesBus history (plain_entry pass call (replies.Refused refusal) no_mark)
-refused_bus history pass call refusal = record {
-  consumers = record { registered = refl; kept = λ c. refl };
-  numbers = numbers_left history (plain_entry pass call (replies.Refused refusal) no_mark) (λ consumer. mailbox_same history (plain_entry pass call (replies.Refused refusal) no_mark) consumer refl);
-  choices = refl;
-  tasks = record { made = refl; kept = λ t. refl };
-  requests = record { opened = refl; settled = λ r. refl };
-  settled = refl;
-  dropped = refl;
-  given = refl;
-  codecs = record { added = refl; kept = λ c. refl };
-  rules = record { added = refl; kept = λ r. refl };
-}
+pub refused_bus : (history : List Traced) (pass : PassNo) (call : Call) (refusal : Refusal) (states : List (List ℤ)) → LeavesBus history (entry_of pass call (replies.Refused refusal) states no_mark)
+refused_bus history pass call refusal states =
+    let entry = entry_of pass call (replies.Refused refusal) states no_mark in
+    record {
+      consumers = record { registered = refl; kept = λ c. refl };
+      numbers = numbers_left history entry (λ consumer. mailbox_same history entry consumer refl);
+      choices = refl;
+      tasks = record { made = refl; kept = λ t. refl };
+      requests = record { opened = refl; settled = λ r. refl };
+      settled = refl;
+      dropped = refl;
+      given = refl;
+      codecs = record { added = refl; kept = λ c. refl };
+      rules = record { added = refl; kept = λ r. refl };
+    }
 
--- a refused call leaves all stores
-pub refused_stores : (contexts : ContextStore) (timers : List Timer) (bus : BusStore) (history : List Traced) (pass : PassNo) (call : Call) (refusal : Refusal) → is_stored call ≡ true → StoresStand contexts timers bus history →
-    StoresStand contexts timers bus (history ++ plain_entry pass call (replies.Refused refusal) no_mark ∷ [])
-refused_stores contexts timers bus history pass call refusal is stands =
-    let entry = plain_entry pass call (replies.Refused refusal) no_mark in
+-- a refused call leaves all stores, whatever states go with it
+pub refused_stores_with : (contexts : ContextStore) (timers : List Timer) (bus : BusStore) (history : List Traced) (pass : PassNo) (call : Call) (refusal : Refusal) (states : List (List ℤ)) → is_stored call ≡ true →
+    StoresStand contexts timers bus history → StoresStand contexts timers bus (history ++ entry_of pass call (replies.Refused refusal) states no_mark ∷ [])
+refused_stores_with contexts timers bus history pass call refusal states is stands =
+    let entry = entry_of pass call (replies.Refused refusal) states no_mark in
     let one : IsStored entry = record { call = is; mark = refl } in
     record {
       stored = stored_more history entry stands.stored one;
-      contexts = refused_contexts contexts history pass call refusal stands.contexts;
+      contexts = refused_contexts contexts history pass call refusal states stands.contexts;
       timers = timers_left timers history entry (record { opened = refl; settled = λ r. refl }) stands.timers;
-      bus = bus_left bus history entry stands.stored (refused_bus history pass call refusal) stands.bus;
+      bus = bus_left bus history entry stands.stored (refused_bus history pass call refusal states) stands.bus;
     }
+
+pub refused_stores : (contexts : ContextStore) (timers : List Timer) (bus : BusStore) (history : List Traced) (pass : PassNo) (call : Call) (refusal : Refusal) → is_stored call ≡ true → StoresStand contexts timers bus history →
+    StoresStand contexts timers bus (history ++ plain_entry pass call (replies.Refused refusal) no_mark ∷ [])
+refused_stores contexts timers bus history pass call refusal is stands = refused_stores_with contexts timers bus history pass call refusal [] is stands
 
 -- a refused call follows, where the refusal is that of its row
 pub follows_refused : (contexts : ContextStore) (timers : List Timer) (bus : BusStore) (history : List Traced) (pass : PassNo) (call : Call) (refusal : Refusal) → is_stored call ≡ true → StoresStand contexts timers bus history →

@@ -44,7 +44,6 @@ pub mod Stored
 pub mod KeepsOpen
 pub mod Dropped
 pub mod Closed
-pub mod Built
 pub mod Advances
 pub mod Closing
 pub mod ClosedWith

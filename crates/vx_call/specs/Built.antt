@@ -1,22 +1,10 @@
--- Which calls have a body so far. The stores keep the effects of those of the event bus and of verticles; the hub makes those
--- of the event bus. Each other one is defined.
+-- Which calls have a body so far: those of the event bus and of verticles. Each other one is defined.
 -- (This project's own.)
 use Rattle.std.specs.Prelude.{◌≡◌, Bool, true, false, not, ◌&&◌, List, [], ◌∷◌, Some}
 use Rattle.vx_call.specs.declared.call.Call.{Call}
 use Rattle.vx_call.specs.declared.call.Call.TheVariants as calls
 use Rattle.vx_call.specs.declared.history.Traced.{Traced}
 use Rattle.vx_call.specs.History.{no_mark}
-
--- calls of verticles: of their event loops and pools, of deployments, and the closing of the hub
-abbrev pub is_of_verticles : Call → Bool
-is_of_verticles (calls.SetLoops count) = true
-is_of_verticles (calls.AddPool name size) = true
-is_of_verticles (calls.Deploy worker pool tell count) = true
-is_of_verticles (calls.Undeploy deployment tell) = true
-is_of_verticles (calls.StartDone result) = true
-is_of_verticles calls.StopDone = true
-is_of_verticles calls.Close = true
-is_of_verticles _ = false
 
 -- calls that hand something to a context for later: a handler that is called once, a timer, code, or how a promise ends
 abbrev pub hands_over : Call → Bool
@@ -42,7 +30,7 @@ is_of_connections (calls.TakeOut conn) = true
 is_of_connections (calls.CloseConn conn) = true
 is_of_connections _ = false
 
--- calls whose effects the stores keep: those of the event bus and of verticles
+-- calls that the hub makes so far, and whose effects its stores keep: those of the event bus and of verticles
 abbrev pub is_stored : Call → Bool
 is_stored call = not (hands_over call) && not (is_of_connections call)
 
@@ -55,15 +43,3 @@ pub record IsStored (new : Traced) : Type 0 where
 abbrev pub AreStored : List Traced → Type 0
 AreStored [] = Unit {0}
 AreStored (new ∷ others) = IsStored new × AreStored others
-
--- calls that the hub makes so far: those of them that are not of verticles
-abbrev pub is_built : Call → Bool
-is_built call = not (is_of_verticles call) && is_stored call
-
-pub record IsBuilt (new : Traced) : Type 0 where
-  pub call : is_built new.entry.call ≡ true
-  pub mark : new.mark ≡ no_mark
-
-abbrev pub AreBuilt : List Traced → Type 0
-AreBuilt [] = Unit {0}
-AreBuilt (new ∷ others) = IsBuilt new × AreBuilt others

@@ -1,6 +1,6 @@
 ghost use Rattle.std.specs.Prelude.{◌≡◌};
 ghost use Rattle.vx_call.specs.Plain.{is_plain};
-ghost use Rattle.vx_call.specs.Built.{is_built, is_of_verticles, hands_over, is_of_connections};
+ghost use Rattle.vx_call.specs.Built.{is_stored, hands_over, is_of_connections};
 
 use vx_data::{
     Body, ConnId, ConsumerId, ContextId, DeploymentId, List, MessageId, Moment, Numbers, PromiseId,
@@ -205,32 +205,16 @@ impl Call {
         )
     }
 
-    /// Whether the hub makes the call so far: one of the event bus, of contexts, passes and the time. Each other one is
-    /// defined, and the hub has no body for it yet.
+    /// Whether the hub makes the call so far: one of the event bus, of contexts, passes, the time and verticles. Each other
+    /// one is defined, and the hub has no body for it yet.
     pub fn is_built(&self) -> bool
-        ensures { result ≡ is_built self.now }
+        ensures { result ≡ is_stored self.now }
     {
-        !is_of_verticles(self) && !hands_over(self) && !is_of_connections(self)
+        !hands_over(self) && !is_of_connections(self)
     }
 
     /// Lets go of the call. All forms of calls are gone through here alone, so that the check does so once.
     pub fn let_go(self) {}
-}
-
-// Whether the call is of verticles: of their event loops and pools, of deployments, or the closing of the hub.
-fn is_of_verticles(call: &Call) -> bool
-    ensures { result ≡ is_of_verticles call.now }
-{
-    matches!(
-        call,
-        Call::SetLoops(_)
-            | Call::AddPool { .. }
-            | Call::Deploy { .. }
-            | Call::Undeploy { .. }
-            | Call::StartDone(_)
-            | Call::StopDone
-            | Call::Close
-    )
 }
 
 // Whether the call hands something to a context for later: a handler that is called once, a timer, code, or how a promise

@@ -1,3 +1,6 @@
+ghost use Rattle.std.specs.Prelude.{◌≡◌};
+ghost use Rattle.vx_call.specs.Kinds.{task_of};
+
 use vx_data::{
     CodecId, ConnId, ConsumerId, ContextId, DeploymentId, EntryNo, List, MessageId, PassNo, PoolId,
     PromiseId, QueuedId, RuleId, ServerId, TimerId,
@@ -175,6 +178,19 @@ pub enum Reply {
 impl Reply {
     /// Lets go of the reply, as the end of its scope does.
     pub fn let_go(self) {}
+
+    /// The task that the reply hands out, if it is one. Any other reply is let go of.
+    pub fn into_task(self) -> Option<Task>
+        ensures { result ≡ task_of self }
+    {
+        match self {
+            Reply::Task(task) => Some(task),
+            other => {
+                other.let_go();
+                None
+            }
+        }
+    }
 }
 
 impl Drop for Reply {

@@ -8,9 +8,9 @@ pub mod BeforeDeploy
 pub mod RowLoops
 pub mod RowDeploy
 pub mod Refused
+pub mod RowClose
 pub mod EndsOpen
 pub mod RowEnds
 pub mod EndsPlaces
 pub mod RowDone
 pub mod EndRefusals
-pub mod RowClose

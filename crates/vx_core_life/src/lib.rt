@@ -3,6 +3,7 @@
 
 mod closing;
 mod deploying;
+mod dispatch;
 mod ending;
 mod ends;
 mod laws;
@@ -15,6 +16,7 @@ mod undeploying;
 
 pub use closing::close;
 pub use deploying::deploy;
+pub use dispatch::{is_life_call, step};
 pub use ending::{finish, start_done, stop_done};
 pub use laws::what_comes_is_made_ready;
 pub use loops::{add_pool, set_loops};

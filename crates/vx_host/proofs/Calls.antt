@@ -1,95 +1,58 @@
 -- From the hub's answer in a turn to what the pass knows then.
-use Rattle.std.proofs.Common.{◌≡◌, ℕ, ◌<◌, ◌≤◌, ◌^◌, Bool, true, false, cond, rules, tests, List, [], ◌∷◌, ◌++◌, length, All, refl, sym, ap, ◌∙◌, subst}
+use Rattle.std.proofs.Common.{◌≡◌, ℕ, ◌<◌, true, false, cond, List, [], ◌∷◌, ◌++◌, length, All, refl, sym, ap, ◌∙◌, subst}
+use Rattle.std.specs.Prelude.{ℤ, Option}
 use Rattle.std.specs.List.{enumerate_from}
-use Rattle.std.specs.Option.{option_or}
 use Rattle.std.proofs.lemmas.List.{append-nil}
 use Rattle.std.proofs.lemmas.List.Elements.{All-nil, All-contains}
+use Rattle.vx_data.specs.declared.ids.ContextId.{ContextId}
 use Rattle.vx_data.specs.declared.ids.PassNo.{PassNo}
+use Rattle.vx_message.specs.declared.Lane.{Lane}
 use Rattle.vx_call.specs.declared.call.Call.{Call}
 use Rattle.vx_call.specs.declared.call.Call.TheVariants as calls
-use Rattle.vx_call.specs.declared.reply.Refusal.TheVariants as refusals
-use Rattle.vx_call.specs.declared.reply.Reply.TheVariants as replies
 use Rattle.vx_call.specs.declared.reply.Reply.{Reply}
 use Rattle.vx_call.specs.declared.history.Traced.{Traced}
-use Rattle.vx_call.specs.History.{plain_entry}
+use Rattle.vx_call.specs.History.{entry_of}
 use Rattle.vx_call.specs.Effects.{marked}
-use Rattle.vx_call.specs.Refusals.{is_spent, unless_refused, refused_if, shut}
+use Rattle.vx_call.specs.Refusals.{is_spent}
 use Rattle.vx_call.specs.Passes.{passes}
-use Rattle.vx_call.specs.Machine.{row, answer, extended, IsLegal}
+use Rattle.vx_call.specs.Machine.{answer, extended_with, IsLegal}
 use Rattle.vx_call.specs.Unchanged.{IsUnchanged}
-use Rattle.vx_call.proofs.Refused.{refused_unchanged}
-use Rattle.vx_turn.specs.Entries.{is_in, entries_of, GrewByOthers}
+use Rattle.vx_turn.specs.declared.machine.Machine.{Ghosts}
+use Rattle.vx_turn.specs.Entries.{is_in, GrewByOthers}
 use Rattle.vx_turn.specs.Caller.{Caller, mine_of, own_of, Came, SameEntries}
 use Rattle.vx_turn.proofs.Facts.{grew_trans, All-one}
 use Rattle.vx_turn.proofs.Numbers.{in_of}
-use Rattle.vx_turn.proofs.Entries.{entries_more, is_in-itself}
+use Rattle.vx_instances.specs.Instances.{gives, handler_in}
 use Rattle.vx_hub.specs.Passes.{pass_of, opens}
 use Rattle.vx_hub.specs.Stores.{HubStore}
-use Rattle.vx_hub.specs.Stands.{StandsFor, Answered, Meets}
-use Rattle.vx_hub.proofs.Calls.{is_unspent}
-use Rattle.vx_host.specs.Calls.{pass_no, entry_of, machine_entry, Called}
+use Rattle.vx_hub.specs.Stands.{AllStand, StandsFor, Answered, Meets, Keeps}
+use Rattle.vx_host.specs.Turns.{pass_no, HasTurn, Adds, HasLeft}
+use Rattle.vx_host.specs.Hub.{Takes}
+use Rattle.vx_host.specs.Calls.{call_entry, machine_entry, Called, Took, AddedNothing}
+
+-- a hub, as turns see a machine
+abbrev pub the_hub : Ghosts HubStore Traced
+the_hub = record { stands_for = AllStand; legal = IsLegal; pass_of = pass_of; passes = passes; opens = opens }
 
 -- the history that a call leaves
-extended_by : (history : List Traced) (pass : PassNo) (call : Call) (reply : Reply) → extended history pass call reply ≡ history ++ entry_of history pass call reply
-extended_by history pass call reply =
-    let entry = plain_entry pass call reply (marked history pass call reply) ∷ [] in
+pub extended_by : (history : List Traced) (pass : PassNo) (call : Call) (reply : Reply) (states : List (List ℤ)) → extended_with history pass call reply states ≡ history ++ call_entry history pass call reply states
+extended_by history pass call reply states =
+    let entry = entry_of pass call reply states (marked history pass call reply) ∷ [] in
     elim (is_spent history) as (λ b. cond b history (history ++ entry) ≡ history ++ cond b [] entry) [ true ↦ sym (append-nil history) | false ↦ refl ]
 
--- the pass that has the turn is there, so the hub answers it as the machine does
-pub answered_in : (old lent new : HubStore) (turn : Caller Traced) (pass : PassNo) (call : Call) (reply : Reply) → pass.0 ≡ turn.number → is_in turn.numbers turn.number ≡ true → All (λ n. n < passes turn.seen) turn.numbers
-    → StandsFor old turn.seen → lent ≡ old → Meets lent new pass call reply → Answered new turn.seen pass call reply
-answered_in old lent new turn pass call reply number is known stands same meets =
-    let P : ℕ → Type 0 = λ n. n < passes turn.seen in
-    let Q : HubStore → Type 0 = λ hub. StandsFor hub turn.seen in
-    meets turn.seen (subst Q (sym same) stands) (subst P (sym number) (All-contains P turn.numbers turn.number known (in_of turn.numbers turn.number is)))
-
-answer_of : (new : HubStore) (history : List Traced) (pass : PassNo) (call : Call) (reply : Reply) (added : List Traced) → added ≡ machine_entry history pass call → Answered new history pass call reply
-    → history ++ added ≡ extended history pass call reply
-answer_of new history pass call reply added is answered =
-    ap (λ es. history ++ es) (is ∙ ap (entry_of history pass call) (sym answered.answered)) ∙ sym (extended_by history pass call reply)
-
--- the hub stands for the history with the entry
-pub stands_after : (new : HubStore) (history : List Traced) (pass : PassNo) (call : Call) (reply : Reply) (added : List Traced) → added ≡ machine_entry history pass call → Answered new history pass call reply
-    → StandsFor new (history ++ added)
-stands_after new history pass call reply added is answered = subst (StandsFor new) (sym (answer_of new history pass call reply added is answered)) answered.stands
-
 -- the entry is the pass's
-pub entry_own : (history : List Traced) (pass : PassNo) (call : Call) (added : List Traced) (n : ℕ) → added ≡ machine_entry history pass call → pass.0 ≡ n → All (λ e. pass_of e ≡ n) added
-entry_own history pass call added n is number =
-    let P : Traced → Type 0 = λ e. pass_of e ≡ n in
-    let reply = answer history pass call in
-    let entry = plain_entry pass call reply (marked history pass call reply) in
-    let own : All P (machine_entry history pass call) = elim (is_spent history) as (λ b. All P (cond b [] (entry ∷ []))) [ true ↦ All-nil P | false ↦ All-one P entry number ] in
-    subst (All P) (sym is) own
+pub entry_own : (history : List Traced) (pass : PassNo) (call : Call) (reply : Reply) (states : List (List ℤ)) → All (λ e. pass_of e ≡ pass.0) (call_entry history pass call reply states)
+entry_own history pass call reply states =
+    let P : Traced → Type 0 = λ e. pass_of e ≡ pass.0 in
+    let entry = entry_of pass call reply states (marked history pass call reply) in
+    elim (is_spent history) as (λ b. All P (cond b [] (entry ∷ []))) [ true ↦ All-nil P | false ↦ All-one P entry refl ]
 
--- what the pass knows when the turn has ended
-pub called_in : (new : HubStore) (before after : Caller Traced) (pass : PassNo) (call : Call) (reply : Reply) (added : List Traced) → pass.0 ≡ before.number → added ≡ machine_entry before.seen pass call
-    → Answered new before.seen pass call reply → after ≡ record before { seen = before.seen ++ added } → mine_of pass_of after ≡ mine_of pass_of before ++ enumerate_from (length before.seen) added
-    → own_of pass_of after ≡ own_of pass_of before ++ enumerate_from (length before.seen) added → Called before call reply after
-called_in new before after pass call reply added number is answered left mine own =
-    let same : pass ≡ pass_no before = ap (λ n. let p : PassNo = record { 0 = n } in p) number in
-    let seen : after.seen ≡ before.seen ++ added = ap (λ (c : Caller Traced). c.seen) left in
-    let entry : added ≡ entry_of before.seen (pass_no before) call reply = is ∙ (ap (entry_of before.seen pass call) (sym answered.answered) ∙ ap (λ p. entry_of before.seen p call reply) same) in
-    let all : after.seen ≡ extended before.seen pass call reply = seen ∙ answer_of new before.seen pass call reply added is answered in
-    record {
-      number = ap (λ (c : Caller Traced). c.number) left;
-      numbers = ap (λ (c : Caller Traced). c.numbers) left;
-      history = before.seen;
-      found = ([], append-nil before.seen, All-nil _);
-      answered = answered.answered ∙ ap (λ p. answer before.seen p call) same;
-      seen = seen ∙ ap (λ es. before.seen ++ es) entry;
-      is_legal = subst IsLegal (sym all) answered.stands.legal;
-      mine = mine ∙ ap (λ es. mine_of pass_of before ++ enumerate_from (length before.seen) es) entry;
-      own = own ∙ ap (λ es. own_of pass_of before ++ enumerate_from (length before.seen) es) entry;
-      refused = λ no. subst (IsUnchanged before.seen) (sym all) (answered.refused no);
-    }
-
--- and what it knew before it waited
-pub called_since : (before turn after : Caller Traced) (call : Call) (reply : Reply) → Came IsLegal pass_of passes before turn → SameEntries pass_of before turn → Called turn call reply after → Called before call reply after
-called_since before turn after call reply came same called =
+-- a call that its pass made in a turn, it made as it came
+pub called_since : (before turn after : Caller Traced) (call : Call) (reply : Reply) (states : List (List ℤ)) → Came IsLegal pass_of passes before turn → SameEntries pass_of before turn → Called turn call reply states after → Called before call reply states after
+called_since before turn after call reply states came same called =
     let no : pass_no turn ≡ pass_no before = ap (λ n. let p : PassNo = record { 0 = n } in p) came.number in
     let history = called.history in
-    let entry = ap (λ p. entry_of history p call reply) no in
+    let entry = ap (λ p. call_entry history p call reply states) no in
     record {
       number = called.number ∙ came.number;
       numbers = called.numbers ∙ came.numbers;
@@ -98,73 +61,112 @@ called_since before turn after call reply came same called =
       answered = called.answered ∙ ap (λ p. answer history p call) no;
       seen = called.seen ∙ ap (λ es. history ++ es) entry;
       is_legal = called.is_legal;
-      mine = called.mine ∙ (ap (λ ms. ms ++ enumerate_from (length history) (entry_of history (pass_no turn) call reply)) same.mine ∙ ap (λ es. mine_of pass_of before ++ enumerate_from (length history) es) entry);
-      own = called.own ∙ (ap (λ ms. ms ++ enumerate_from (length history) (entry_of history (pass_no turn) call reply)) same.own ∙ ap (λ es. own_of pass_of before ++ enumerate_from (length history) es) entry);
+      mine = called.mine ∙ (ap (λ ms. ms ++ enumerate_from (length history) (call_entry history (pass_no turn) call reply states)) same.mine ∙ ap (λ es. mine_of pass_of before ++ enumerate_from (length history) es) entry);
+      own = called.own ∙ (ap (λ ms. ms ++ enumerate_from (length history) (call_entry history (pass_no turn) call reply states)) same.own ∙ ap (λ es. own_of pass_of before ++ enumerate_from (length history) es) entry);
       refused = called.refused;
     }
 
--- ## A split
-
--- what the pass knows when it has split
-split_in : (turn after : Caller Traced) (reply : Reply) → is_in turn.numbers turn.number ≡ true → after ≡ record turn { seen = after.seen } → reply ≡ answer turn.seen (pass_no turn) calls.NewPass
-    → after.seen ≡ turn.seen ++ entry_of turn.seen (pass_no turn) calls.NewPass reply → IsLegal after.seen → Called turn calls.NewPass reply after
-split_in turn after reply is left answered seen legal =
-    let pass = pass_no turn in
-    let entry = entry_of turn.seen pass calls.NewPass reply in
-    let own = entry_own turn.seen pass calls.NewPass entry turn.number (ap (entry_of turn.seen pass calls.NewPass) answered) refl in
+-- what the pass knows when the turn has ended
+called_in : (turn after : Caller Traced) (left : HubStore) (call : Call) (reply : Reply) (states : List (List ℤ)) → Answered left turn.seen (pass_no turn) call reply states → HasLeft the_hub turn after (call_entry turn.seen (pass_no turn) call reply states)
+    → Called turn call reply states after
+called_in turn after left call reply states answered leaves =
+    let entry = call_entry turn.seen (pass_no turn) call reply states in
+    let seen : after.seen ≡ turn.seen ++ entry = ap (λ (c : Caller Traced). c.seen) leaves.seen in
+    let all : after.seen ≡ extended_with turn.seen (pass_no turn) call reply states = seen ∙ sym (extended_by turn.seen (pass_no turn) call reply states) in
     record {
-      number = ap (λ (c : Caller Traced). c.number) left;
-      numbers = ap (λ (c : Caller Traced). c.numbers) left;
+      number = ap (λ (c : Caller Traced). c.number) leaves.seen;
+      numbers = ap (λ (c : Caller Traced). c.numbers) leaves.seen;
       history = turn.seen;
       found = ([], append-nil turn.seen, All-nil _);
-      answered = answered;
+      answered = answered.answered;
       seen = seen;
-      is_legal = legal;
-      mine = ap (mine_of pass_of) left ∙ (ap (entries_of pass_of turn.numbers) seen ∙ entries_more pass_of turn.numbers turn.number turn.seen entry is own);
-      own = ap (own_of pass_of) left ∙ (ap (entries_of pass_of (turn.number ∷ [])) seen ∙ entries_more pass_of (turn.number ∷ []) turn.number turn.seen entry (is_in-itself pass_of turn.number) own);
-      refused = λ no. subst (IsUnchanged turn.seen) (extended_by turn.seen pass calls.NewPass reply ∙ sym seen) (refused_unchanged turn.seen pass calls.NewPass reply no);
+      is_legal = subst IsLegal (sym all) answered.stands.legal;
+      mine = leaves.mine;
+      own = leaves.own;
+      refused = λ no. subst (IsUnchanged turn.seen) (sym all) (answered.refused no);
     }
 
-none_more : (b : Bool) → cond {A = List Traced} b [] [] ≡ []
-none_more true = refl
-none_more false = refl
+-- the pass that came to its turn has still its number
+pub still_in : (before turn : Caller Traced) → is_in before.numbers before.number ≡ true → Came IsLegal pass_of passes before turn → is_in turn.numbers turn.number ≡ true
+still_in before turn own came =
+    let P : List ℕ → Type 0 = λ ns. is_in ns turn.number ≡ true in
+    let Q : ℕ → Type 0 = λ n. is_in before.numbers n ≡ true in
+    subst P (sym came.numbers) (subst Q (sym came.number) own)
 
--- what holds of a history behind which nothing was added holds of the history
-pub nothing_more : (P : List Traced → Type 0) (history : List Traced) (b : Bool) → P (history ++ cond b [] []) → P history
-nothing_more P history b held = subst P (ap (λ es. history ++ es) (none_more b) ∙ append-nil history) held
+-- ## A call in a turn
 
--- the turn that was split has ended
-pub split_ended : (turn split after : Caller Traced) (b : Bool) → split ≡ record turn { seen = split.seen } → IsLegal (split.seen ++ cond b [] []) → after ≡ split → (after ≡ record turn { seen = after.seen }) × IsLegal after.seen
-split_ended turn split after b same legal is =
-    let seen = sym (ap (λ (c : Caller Traced). c.seen) is) in (
-      is ∙ (same ∙ ap (λ h. record turn { seen = h }) seen),
-      subst IsLegal (ap (λ es. split.seen ++ es) (none_more b) ∙ (append-nil split.seen ∙ seen)) legal,
-    )
+module _ (before turn : Caller Traced) (found : HubStore) (own : is_in before.numbers before.number ≡ true) (has : HasTurn the_hub before turn found) where
+  same_no : pass_no turn ≡ pass_no before
+  same_no = ap (λ n. let p : PassNo = record { 0 = n } in p) has.came.number
 
-pub split_opened : (turn after : Caller Traced) (history : List Traced) (number : ℕ) → history ≡ turn.seen → is_in turn.numbers turn.number ≡ true → after ≡ record turn { seen = after.seen } → length history < 2 ^ 48 → number ≡ passes history
-    → after.seen ≡ history ++ opens turn.number (passes history) ∷ [] → IsLegal after.seen → Called turn calls.NewPass (replies.Pass (record { 0 = number })) after
-split_opened turn after history number same is left short counted seen legal =
-    let P : List Traced → Type 0 = λ h. length h < 2 ^ 48 in
-    let room : length turn.seen < 2 ^ 48 = subst P same short in
-    let count : number ≡ passes turn.seen = counted ∙ ap passes same in
-    let reply = replies.Pass (record { 0 = number }) in
-    let pass = pass_no turn in
-    let entry = plain_entry pass calls.NewPass reply (marked turn.seen pass calls.NewPass reply) in
-    let unspent = sym (is_unspent turn.seen room) in
-    split_in turn after reply is left
-    (ap (λ n. replies.Pass (record { 0 = n })) count ∙ ap (λ b. unless_refused (option_or (refused_if b refusals.Spent) (shut turn.seen calls.NewPass)) (row turn.seen pass calls.NewPass)) unspent)
-    (seen ∙ (ap (λ h. h ++ opens turn.number (passes h) ∷ []) same ∙ (ap (λ n. turn.seen ++ opens turn.number n ∷ []) (sym count) ∙ ap (λ b. turn.seen ++ cond b [] (entry ∷ [])) unspent))) legal
+  -- the pass is there
+  is_there : turn.number < passes turn.seen
+  is_there = let P : ℕ → Type 0 = λ n. n < passes turn.seen in All-contains P turn.numbers turn.number has.came.known (in_of turn.numbers turn.number (still_in before turn own has.came))
 
-has_spent : (history : List Traced) → 2 ^ 48 ≤ length history → is_spent history ≡ true
-has_spent history full = search (rules, tests)
+  found_stands : StandsFor found turn.seen
+  found_stands = record { parts = has.stands.parts; instances = has.stands.instances; legal = has.came.is_legal }
 
-pub split_spent : (turn after : Caller Traced) (history : List Traced) → history ≡ turn.seen → is_in turn.numbers turn.number ≡ true → after ≡ record turn { seen = after.seen } → 2 ^ 48 ≤ length history
-    → after.seen ≡ turn.seen → IsLegal after.seen → Called turn calls.NewPass (replies.Refused refusals.Spent) after
-split_spent turn after history same is left full seen legal =
-    let P : List Traced → Type 0 = λ h. 2 ^ 48 ≤ length h in
-    let spent = sym (has_spent turn.seen (subst P same full)) in
-    let pass = pass_no turn in
-    let reply = replies.Refused refusals.Spent in
-    let entry = plain_entry pass calls.NewPass reply (marked turn.seen pass calls.NewPass reply) in
-    split_in turn after reply is left (ap (λ b. unless_refused (option_or (refused_if b refusals.Spent) (shut turn.seen calls.NewPass)) (row turn.seen pass calls.NewPass)) spent)
-    (seen ∙ (sym (append-nil turn.seen) ∙ ap (λ b. turn.seen ++ cond b [] (entry ∷ [])) spent)) legal
+  lent_stands : (lent : HubStore) → lent ≡ found → StandsFor lent turn.seen
+  lent_stands lent same = let P : HubStore → Type 0 = λ hub. StandsFor hub turn.seen in subst P (sym same) found_stands
+
+  -- ... and the hub knows it
+  pub is_known : (lent : HubStore) → lent ≡ found → turn.number < lent.passes
+  is_known lent same = let P : ℕ → Type 0 = λ n. turn.number < n in subst P (sym (lent_stands lent same).parts.parts.passes) is_there
+
+  -- so the hub answers it as the machine does
+  pub is_answered : (lent kept left : HubStore) (call : Call) (reply : Reply) (states : List (List ℤ)) → lent ≡ found → kept ≡ left → Meets lent kept (pass_no turn) call reply states → Answered left turn.seen (pass_no turn) call reply states
+  is_answered lent kept left call reply states same is meets = let P : HubStore → Type 0 = λ hub. Answered hub turn.seen (pass_no turn) call reply states in subst P is (meets turn.seen (lent_stands lent same) is_there)
+
+  -- ... and finds what the history has
+  pub is_so : (P : List Traced → Type 0) (lent : HubStore) → lent ≡ found → ((history : List Traced) → StandsFor lent history → turn.number < passes history → P history) → P turn.seen
+  is_so P lent same so = so turn.seen (lent_stands lent same) is_there
+
+  machine_says : (left : HubStore) (call : Call) (reply : Reply) (states : List (List ℤ)) → Answered left turn.seen (pass_no turn) call reply states → machine_entry turn.seen (pass_no before) call states ≡ call_entry turn.seen (pass_no turn) call reply states
+  machine_says left call reply states answered = sym (ap (λ r. call_entry turn.seen (pass_no turn) call r states) answered.answered ∙ ap (λ p. machine_entry turn.seen p call states) same_no)
+
+  -- the hub stands for the history with the entry, which is the pass's
+  pub adds_entry : (left : HubStore) (call : Call) (reply : Reply) (states : List (List ℤ)) → Answered left turn.seen (pass_no turn) call reply states → Adds the_hub turn left (machine_entry turn.seen (pass_no before) call states)
+  adds_entry left call reply states answered =
+      let entry = machine_says left call reply states answered in
+      let after = extended_by turn.seen (pass_no turn) call reply states ∙ ap (λ es. turn.seen ++ es) (sym entry) in
+      let stands = subst (StandsFor left) after answered.stands in
+      record {
+        stands = record { parts = stands.parts; instances = stands.instances };
+        is_legal = stands.legal;
+        own = subst (All (λ e. pass_of e ≡ turn.number)) (sym entry) (entry_own turn.seen (pass_no turn) call reply states);
+      }
+
+  -- ... and the pass has made the call
+  pub has_made : (left : HubStore) (after : Caller Traced) (call : Call) (reply : Reply) (states : List (List ℤ)) → Answered left turn.seen (pass_no turn) call reply states → HasLeft the_hub turn after (machine_entry turn.seen (pass_no before) call states) → Called before call reply states after
+  has_made left after call reply states answered leaves =
+      called_since before turn after call reply states has.came has.entries (called_in turn after left call reply states answered (subst (HasLeft the_hub turn after) (machine_says left call reply states answered) leaves))
+
+  -- a hub that keeps its history
+  pub still_stands : (lent kept left : HubStore) → lent ≡ found → kept ≡ left → Keeps lent kept → AllStand left turn.seen
+  still_stands lent kept left same is keeps =
+      let P : HubStore → Type 0 = λ hub. StandsFor hub turn.seen in
+      let stands = subst P is (keeps turn.seen (lent_stands lent same)) in
+      record { parts = stands.parts; instances = stands.instances }
+
+  -- a turn in which nothing was added
+  pub adds_nothing : (lent kept left : HubStore) → lent ≡ found → kept ≡ lent → kept ≡ left → Adds the_hub turn left []
+  adds_nothing lent kept left same still is =
+      let P : HubStore → Type 0 = λ hub. AllStand hub turn.seen in
+      let back = sym (append-nil turn.seen) in
+      record { stands = subst (AllStand left) back (subst P (sym same ∙ (sym still ∙ is)) has.stands); is_legal = subst IsLegal back has.came.is_legal; own = All-nil _ }
+
+  pub added_nothing : (after : Caller Traced) → after ≡ turn → AddedNothing before after
+  added_nothing after is = let P : Caller Traced → Type 0 = λ c. AddedNothing before c in subst P (sym is) (record { came = has.came; entries = has.entries })
+
+  pub has_left : (after : Caller Traced) → HasLeft the_hub turn after [] → after ≡ turn
+  has_left after leaves = leaves.seen ∙ ap (λ h. record turn { seen = h }) (append-nil turn.seen)
+
+  -- ... and taken a task
+  pub has_taken : (lent kept left : HubStore) → lent ≡ found → kept ≡ left → (after : Caller Traced) (lane : Lane) (reply : Reply) (context : Option ContextId) (state : Option (List ℤ)) → Takes lent kept (pass_no turn) lane reply context state
+      → HasLeft the_hub turn after (machine_entry turn.seen (pass_no before) (calls.Take lane) []) → Took before lane reply context state after
+  unfolding has_made called_since called_in
+  has_taken lent kept left same is after lane reply context state takes leaves = record {
+    called = has_made left after (calls.Take lane) reply [] (is_answered lent kept left (calls.Take lane) reply [] same is takes.answered) leaves;
+    on_context = is_so (λ history. context ≡ handler_in history reply) lent same takes.on_context;
+    gives = is_so (λ history. state ≡ gives history (calls.Take lane) reply) lent same takes.gives;
+  }

@@ -6,5 +6,5 @@ mod turns;
 
 pub use host::{Applied, BusyCall, Host, Pass};
 pub use vx_call::Unmade;
-pub use vx_hub::{Look, Totals};
+pub use vx_hub::{Back, DeployOptions, DeployRefused, FinishRefused, Look, Taken, Totals, Why};
 pub use vx_turn::Spent;

@@ -1,15 +1,16 @@
 ghost use Rattle.std.specs.Prelude.{◌≡◌, true, IfSome};
-ghost use Rattle.vx_call.specs.Built.{is_built};
+ghost use Rattle.vx_call.specs.Built.{is_stored};
 ghost use Rattle.vx_call.specs.Plain.{is_plain};
 ghost use Rattle.vx_turn.specs.Passes.{place, place_of};
 
 use std::alloc::Global;
 use std::sync::Wait;
 use std::test::Fail;
-use std::thread::{Threads, join};
 use vx_call::{Call, End, Lane, Options, Refusal, Reply, Task, To, Unmade};
 use vx_data::{Body, BodyView, ContextId, EntryNo, PassNo, Text};
 use vx_host::{Host, Look, Pass, Totals};
+use vx_hub::{Back, Taken};
+use vx_kinds::HostVerticle;
 
 const CONTEXT: ContextId = ContextId {
     entry: EntryNo(0),
@@ -20,7 +21,7 @@ const SENDS: i64 = 100;
 
 fn register() -> Call
     ensures plain { is_plain result ≡ true }
-    ensures built { is_built result ≡ true }
+    ensures stored { is_stored result ≡ true }
 {
     Call::Register {
         context: CONTEXT,
@@ -31,7 +32,7 @@ fn register() -> Call
 
 fn send(alloc: Global, number: i64) -> Call
     ensures plain { is_plain result ≡ true }
-    ensures built { is_built result ≡ true }
+    ensures stored { is_stored result ≡ true }
 {
     Call::Send {
         address: Text::constant("a"),
@@ -48,10 +49,15 @@ fn is_made(answer: Result<Reply, Unmade>) -> bool {
     )
 }
 
-fn make<R: Wait>(rt: &R, host: &Host, pass: Pass, call: Call) -> (Pass, bool)
+fn make<R: Wait>(
+    rt: &R,
+    host: &Host<HostVerticle>,
+    pass: Pass<HostVerticle>,
+    call: Call,
+) -> (Pass<HostVerticle>, bool)
     requires place { place_of pass ≡ place host.now.shared }
     requires plain { is_plain call ≡ true }
-    requires built { is_built call ≡ true }
+    requires stored { is_stored call ≡ true }
     ensures { place_of result.0 ≡ place_of pass }
 {
     let applied = host.apply(rt, pass, call);
@@ -59,7 +65,11 @@ fn make<R: Wait>(rt: &R, host: &Host, pass: Pass, call: Call) -> (Pass, bool)
 }
 
 // Makes a context that has a consumer, and a second pass, whose number is 1.
-fn prepared<R: Wait>(rt: &R, host: &Host, pass: Pass) -> Option<(Pass, Pass)>
+fn prepared<R: Wait>(
+    rt: &R,
+    host: &Host<HostVerticle>,
+    pass: Pass<HostVerticle>,
+) -> Option<(Pass<HostVerticle>, Pass<HostVerticle>)>
     requires { place_of pass ≡ place host.now.shared }
     ensures one { IfSome result (λ two. place_of two.0 ≡ place host.now.shared) }
     ensures two { IfSome result (λ two. place_of two.1 ≡ place host.now.shared) }
@@ -73,7 +83,12 @@ fn prepared<R: Wait>(rt: &R, host: &Host, pass: Pass) -> Option<(Pass, Pass)>
 }
 
 // Sends the numbers from `first` on, and gives the pass back where each was sent to the consumer.
-fn send_many<R: Wait + AllocGlobal>(rt: &R, host: &Host, mut pass: Pass, first: i64) -> Option<Pass>
+fn send_many<R: Wait + AllocGlobal>(
+    rt: &R,
+    host: &Host<HostVerticle>,
+    mut pass: Pass<HostVerticle>,
+    first: i64,
+) -> Option<Pass<HostVerticle>>
     requires { place_of pass ≡ place host.now.shared }
     ensures { IfSome result (λ after. place_of after ≡ place_of pass) }
 {
@@ -91,29 +106,18 @@ fn send_many<R: Wait + AllocGlobal>(rt: &R, host: &Host, mut pass: Pass, first: 
     all_sent.then_some(pass)
 }
 
-// Sends in two threads, and joins their passes.
-fn both<R: Threads + Wait + Sync + AllocGlobal>(
+// Sends by one pass and then by the other, and joins them.
+fn both<R: Wait + AllocGlobal>(
     rt: &R,
-    host: &Host,
-    one: Pass,
-    two: Pass,
-) -> Option<Pass>
+    host: &Host<HostVerticle>,
+    one: Pass<HostVerticle>,
+    two: Pass<HostVerticle>,
+) -> Option<Pass<HostVerticle>>
     requires one { place_of one ≡ place host.now.shared }
     requires two { place_of two ≡ place host.now.shared }
     ensures { IfSome result (λ after. place_of after ≡ place_of one) }
 {
-    let (one, two) = join(
-        rt,
-        || -> Option<Pass>
-            requires { place_of one ≡ place host.now.shared }
-            ensures { IfSome result (λ after. place_of after ≡ place_of one) }
-        { send_many(rt, host, one, 0) },
-        || -> Option<Pass>
-            requires { place_of two ≡ place host.now.shared }
-            ensures { IfSome result (λ after. place_of after ≡ place_of two) }
-        { send_many(rt, host, two, SENDS) },
-    );
-    match (one, two) {
+    match (send_many(rt, host, one, 0), send_many(rt, host, two, SENDS)) {
         (Some(one), Some(two)) => Some(host.join(one, two)),
         _ => None,
     }
@@ -135,21 +139,42 @@ fn number_in(reply: &Reply) -> Option<i64> {
 }
 
 // Takes a task and ends it, and answers the number of its message.
-fn take_number<R: Wait>(rt: &R, host: &Host, pass: Pass) -> (Pass, Option<i64>)
+fn take_number<R: Wait>(
+    rt: &R,
+    host: &Host<HostVerticle>,
+    pass: Pass<HostVerticle>,
+) -> (Pass<HostVerticle>, Option<i64>)
     requires { place_of pass ≡ place host.now.shared }
     ensures { place_of result.0 ≡ place_of pass }
 {
-    let (pass, reply) = host.take(rt, pass, Lane::Own(CONTEXT));
+    let (
+        pass,
+        Taken {
+            reply,
+            verticle,
+            ..
+        },
+    ) = host.take(rt, pass, Lane::Own(CONTEXT));
     let number = number_in(&reply);
-    let (pass, ended) = host.finish(rt, pass, End::Done);
-    match ended {
-        Ok(()) => (pass, number),
-        Err(_) => (pass, None),
+    match &reply {
+        Reply::Task(_) => {
+            let back = Back {
+                verticle,
+                end: End::Done,
+            };
+            let (pass, ended) = host.finish(rt, pass, back);
+            (pass, if ended.is_ok() { number } else { None })
+        }
+        _ => (pass, None),
     }
 }
 
-// Takes the tasks of both threads, and answers how many of each came in the order in which they were sent.
-fn take_all<R: Wait>(rt: &R, host: &Host, mut pass: Pass) -> (Pass, (i64, i64))
+// Takes the tasks of both passes, and answers how many of each came in the order in which they were sent.
+fn take_all<R: Wait>(
+    rt: &R,
+    host: &Host<HostVerticle>,
+    mut pass: Pass<HostVerticle>,
+) -> (Pass<HostVerticle>, (i64, i64))
     requires { place_of pass ≡ place host.now.shared }
     ensures { place_of result.0 ≡ place_of pass }
 {
@@ -158,7 +183,7 @@ fn take_all<R: Wait>(rt: &R, host: &Host, mut pass: Pass) -> (Pass, (i64, i64))
     for _ in 0..2 * SENDS {
         let (after, number) = take_number(rt, host, pass);
         pass = after;
-        if number == Some(first) {
+        if first < SENDS && number == Some(first) {
             first = first.saturating_add(1);
         } else if number == Some(second.saturating_add(SENDS)) {
             second = second.saturating_add(1);
@@ -176,12 +201,12 @@ fn totals(messages: u64, deliveries: u64) -> Totals {
     }
 }
 
-// What two threads of 100 sends come to: the length of the history, the totals before anything is taken, how many of each
-// thread's messages are taken in its order, and the totals then.
-fn sent_by_both<R: Threads + Wait + Sync + AllocGlobal>(
+// What 100 sends of each of two passes come to: the length of the history, the totals before anything is taken, how many of
+// each pass's messages are taken in its order, and the totals then.
+fn sent_by_both<R: Wait + AllocGlobal>(
     rt: &R,
-    host: &Host,
-    pass: Pass,
+    host: &Host<HostVerticle>,
+    pass: Pass<HostVerticle>,
 ) -> Option<(u64, Totals, (i64, i64), Totals)>
     requires { place_of pass ≡ place host.now.shared }
 {
@@ -195,7 +220,7 @@ fn sent_by_both<R: Threads + Wait + Sync + AllocGlobal>(
 }
 
 #[test]
-fn two_threads_of_100_sends(rt: HostRuntime) -> Result<(), Fail> {
+fn two_passes_of_100_sends(rt: HostRuntime) -> Result<(), Fail> {
     let (host, pass) = Host::open(rt.alloc())?;
     let came_to = sent_by_both(&rt, &host, pass);
     assert!(rt; came_to == Some((203, totals(200, 0), (SENDS, SENDS), totals(200, 200))));
@@ -203,10 +228,10 @@ fn two_threads_of_100_sends(rt: HostRuntime) -> Result<(), Fail> {
 }
 
 // Makes a call where no other pass has its turn.
-fn is_made_at_once(host: &Host, pass: Pass, call: Call) -> bool
+fn is_made_at_once(host: &Host<HostVerticle>, pass: Pass<HostVerticle>, call: Call) -> bool
     requires place { place_of pass ≡ place host.now.shared }
     requires plain { is_plain call ≡ true }
-    requires built { is_built call ≡ true }
+    requires stored { is_stored call ≡ true }
 {
     match host.try_apply(pass, call) {
         Ok(applied) => is_made(applied.result),
@@ -218,23 +243,23 @@ fn is_made_at_once(host: &Host, pass: Pass, call: Call) -> bool
 }
 
 // Whether a Take of a lane that is not there is refused.
-fn misses<R: Wait>(rt: &R, host: &Host, pass: Pass) -> bool
+fn misses<R: Wait>(rt: &R, host: &Host<HostVerticle>, pass: Pass<HostVerticle>) -> bool
     requires { place_of pass ≡ place host.now.shared }
 {
     let lane = Lane::Own(ContextId {
         entry: EntryNo(1),
         instance: 0,
     });
-    let (_, reply) = host.take(rt, pass, lane);
-    matches!(&reply, Reply::Refused(Refusal::NoLane))
+    let (_, taken) = host.take(rt, pass, lane);
+    matches!(&taken.reply, Reply::Refused(Refusal::NoLane))
 }
 
 // What looks find once another pass has sent a number: a message that waits, with the number as it is taken, and nothing
 // then; no request is due.
 fn looks<R: Wait + AllocGlobal>(
     rt: &R,
-    host: &Host,
-    pass: Pass,
+    host: &Host<HostVerticle>,
+    pass: Pass<HostVerticle>,
 ) -> Option<(Look, Option<i64>, Look, Option<u64>)>
     requires { place_of pass ≡ place host.now.shared }
 {

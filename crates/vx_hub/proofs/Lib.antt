@@ -1,12 +1,5 @@
-pub mod Finishing
-pub mod OfBus
-pub mod Named
-pub mod States
-pub mod Views
 pub mod RowNewPass
 pub mod RowNewContext
-pub mod RowFinish
-pub mod RowTake
 pub mod Counting
 pub mod Calls
 pub mod Requests
@@ -14,3 +7,8 @@ pub mod Advancing
 pub mod RowAdvance
 pub mod Crossing
 pub mod Looking
+pub mod LeftOpen
+pub mod Handing
+pub mod Ends
+pub mod Deploying
+pub mod Shutting

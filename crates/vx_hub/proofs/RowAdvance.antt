@@ -4,7 +4,6 @@ use Rattle.std.specs.Prelude.{true, false, not, nat_le, max, map, filter, find}
 use Rattle.std.specs.Option.{option_map, option_or}
 use Rattle.std.proofs.lemmas.Bool.Decides.{nat_tests}
 use Rattle.std.proofs.lemmas.List.{append-nil, map-append, length-map}
-use Rattle.std.proofs.lemmas.List.Folds.{find-append}
 use Rattle.std.proofs.lemmas.List.Elements.{All-weaker, filter_agree}
 use Rattle.vx_data.specs.declared.ids.PassNo.{PassNo}
 use Rattle.vx_data.specs.declared.ids.MessageId.{MessageId}
@@ -16,7 +15,7 @@ use Rattle.vx_call.specs.declared.call.Call.TheVariants as calls
 use Rattle.vx_call.specs.declared.reply.Reply.TheVariants as replies
 use Rattle.vx_call.specs.declared.history.Deed.TheVariants as deeds
 use Rattle.vx_call.specs.declared.history.Traced.{Traced}
-use Rattle.vx_call.specs.History.{plain_entry, no_mark, lasting}
+use Rattle.vx_call.specs.History.{plain_entry, no_mark}
 use Rattle.vx_data.specs.Ids.{same_message}
 use Rattle.vx_call.specs.Built.{AreStored}
 use Rattle.vx_call.specs.Due.{fired}
@@ -24,7 +23,7 @@ use Rattle.vx_call.specs.Homes.{heard}
 use Rattle.vx_call.specs.Names.{next_entry}
 use Rattle.vx_call.specs.Given.{given_kind}
 use Rattle.vx_call.specs.Requests.{Open, open_kind, unsettled, by_due}
-use Rattle.vx_call.specs.Settled.{Settled, settled_kind, timeout, settlement, settlements, settled_made, settled_at}
+use Rattle.vx_call.specs.Settled.{Settled, timeout, settlement, settlements, settled_made, settled_at}
 use Rattle.vx_call.specs.Time.{now}
 use Rattle.vx_call.specs.Items.{item_kind, waiting, outcome_items, task_kind, untaken, outcome_tasks}
 use Rattle.vx_call.specs.Held.{held_kind}
@@ -35,7 +34,7 @@ use Rattle.vx_call.proofs.Dropped.{ended_among, settled_at_kept}
 use Rattle.vx_call.proofs.Lasting.{lasting_same, lasting_more, lasting-append}
 use Rattle.vx_call.proofs.Each.{Each, Each-filter, weaken}
 use Rattle.vx_call.proofs.Opened.{unsettled_apart, Each-by_due}
-use Rattle.vx_call.proofs.Settlings.{is_settled_as, settled-append}
+use Rattle.vx_call.proofs.Settlings.{is_settled_as}
 use Rattle.vx_call.proofs.ByDue.{is_up, length-by_due, by_due-filter, due_front, due_rest}
 use Rattle.vx_context.specs.Stores.{closed_in, ContextStore, item_of}
 use Rattle.vx_context.specs.Stands.{ContextsStand}
@@ -46,7 +45,7 @@ use Rattle.vx_bus_store.proofs.Frames.{pools_stay, never_taken_back, consumer_ke
 use Rattle.vx_bus_store.proofs.KeptRequests.{ended_by_call}
 use Rattle.vx_bus_store.proofs.Kept.{mailbox_kept}
 use Rattle.vx_hub.specs.Advancing.{Advanced, HasAdvanced, ended_first, is_among, timeouts, timed_out}
-use Rattle.vx_hub.proofs.Requests.{map-or, map-map, find-map, filter_same, length-passing, among_passing, any-by_due}
+use Rattle.vx_hub.proofs.Requests.{map-map, find-map, filter_same, length-passing, among_passing, any-by_due}
 
 -- ## Those that have ended are those whose time is up
 

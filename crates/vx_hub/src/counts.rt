@@ -77,11 +77,11 @@ pub(crate) fn makes_message(call: &Call) -> bool
     )
 }
 
-/// Whether it has made one, by its reply.
-pub(crate) fn has_made(makes: bool, reply: &Reply) -> bool
-    ensures { result ≡ (is_accepted reply.now && makes) }
+/// Whether a call has done what it does where it is accepted, by its reply.
+pub(crate) fn has_done(does: bool, reply: &Reply) -> bool
+    ensures { result ≡ (is_accepted reply.now && does) }
 {
-    !matches!(reply, Reply::Refused(_)) && makes
+    !matches!(reply, Reply::Refused(_)) && does
 }
 
 /// Whether the reply hands a message to a consumer.

@@ -7,8 +7,10 @@ mod look;
 mod machine;
 mod rows;
 mod totals;
+mod verticles;
 
 pub use hub::Hub;
 pub use look::Look;
 pub use totals::Totals;
+pub use verticles::{Back, DeployOptions, DeployRefused, FinishRefused, Taken, Why};
 pub use vx_call::Unmade;

@@ -7,6 +7,7 @@ ghost use Rattle.vx_hub.specs.Looks.{look_at, least_due};
 
 use crate::hub::Hub;
 use vx_call::Lane;
+use vx_verticle::Verticle;
 
 /// What a lane has.
 #[derive(Clone, Copy, PartialEq, Eq)]
@@ -15,16 +16,19 @@ pub enum Look {
     Ready,
     /// No next task now.
     Idle,
+    /// The hub is closed: nothing is taken any more.
+    Stopped,
 }
 
-impl Hub {
-    /// Whether a lane has a next task.
+impl<V: Verticle> Hub<V> {
+    /// Whether a lane has a next task, or the hub is closed.
     pub fn look(&self, lane: Lane) -> Look
         ensures { (history : List Traced) → StandsFor self.entry.now history → result ≡ look_at history lane }
     {
-        match self.contexts.next(lane) {
-            Some(_) => Look::Ready,
-            None => Look::Idle,
+        match (self.life.closed_at(), self.contexts.next(lane)) {
+            (Some(_), _) => Look::Stopped,
+            (None, Some(_)) => Look::Ready,
+            (None, None) => Look::Idle,
         }
     }
 

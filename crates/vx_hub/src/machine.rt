@@ -4,16 +4,17 @@ use crate::rows::new_pass::new_pass;
 use vx_call::Traced;
 use vx_data::PassNo;
 use vx_turn::{Machine, Spent};
+use vx_verticle::Verticle;
 
-impl Machine for Hub {
+impl<V: Verticle> Machine for Hub<V> {
     type Entry = Traced;
 
     ghost use Rattle.vx_call.specs.Passes.{passes};
     ghost use Rattle.vx_call.specs.Machine.{IsLegal};
-    ghost use Rattle.vx_hub.specs.Stands.{HubStands};
+    ghost use Rattle.vx_hub.specs.Stands.{AllStand};
     ghost use Rattle.vx_hub.specs.Passes.{pass_of, opens, one_at_first, passes_rise, opened_by, one_more};
 
-    ghost stands_for = { HubStands };
+    ghost stands_for = { AllStand };
 
     ghost legal = { IsLegal };
 

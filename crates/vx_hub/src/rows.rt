@@ -1,7 +1,7 @@
-//! What the calls do that are not the bus's, where the history is not spent: a file a call.
+//! What the calls do, where the history is not spent: plain ones here, and a file for each that is not of a core.
 
 pub mod advance;
-pub mod finish;
 pub mod new_context;
 pub mod new_pass;
-pub mod take;
+pub mod plain;
+pub mod shut;

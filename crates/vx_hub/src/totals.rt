@@ -6,11 +6,12 @@ ghost use Rattle.vx_hub.specs.Looks.{totals_of, summary_line};
 
 use crate::hub::Hub;
 use vx_data::NoMemory;
+use vx_verticle::Verticle;
 
 /// How much was done in a history. A refused call counts for none of them.
 #[derive(Clone, Copy, PartialEq, Eq)]
 pub struct Totals {
-    /// Deployments that were made: 0 so far.
+    /// Deployments that were made, those that are gone included.
     pub deployments: u64,
     /// Messages that were sent, published or asked, among them the requests that reply to a request.
     pub messages: u64,
@@ -41,13 +42,13 @@ impl Totals {
     }
 }
 
-impl Hub {
+impl<V: Verticle> Hub<V> {
     /// How much was done in the history.
     pub fn totals(&self) -> Totals
         ensures { (history : List Traced) → StandsFor self.entry.now history → result ≡ totals_of history }
     {
         Totals {
-            deployments: 0,
+            deployments: self.life.deployment_count() as u64,
             messages: self.counts.messages(),
             deliveries: self.counts.deliveries(),
             frames: 0,

@@ -17,7 +17,7 @@ use Rattle.vx_call.specs.declared.call.Call.TheVariants as calls
 use Rattle.vx_call.specs.declared.reply.Reply.TheVariants as replies
 use Rattle.vx_call.specs.declared.history.Mark.{Mark}
 use Rattle.vx_call.specs.declared.history.Traced.{Traced}
-use Rattle.vx_call.specs.History.{is_accepted, made_by, ended_by, lasting}
+use Rattle.vx_call.specs.History.{entry_of, is_accepted, made_by, ended_by, lasting}
 use Rattle.vx_call.specs.Closings.{open_context_kind, open_contexts}
 use Rattle.vx_call.specs.Contexts.{instance, is_context_of}
 use Rattle.vx_call.specs.Contexts as contexts
@@ -36,7 +36,6 @@ use Rattle.vx_instances.specs.Kept.{Kept, kept_from}
 use Rattle.vx_instances.specs.Instances.{kept_of, is_of_verticle, instances}
 use Rattle.vx_instances.proofs.Maps.{map_each}
 use Rattle.vx_instances.proofs.Rows.{verticles}
-use Rattle.vx_instances.specs.Laws.{stated}
 
 -- ## A context that is not made yet has no state
 
@@ -68,7 +67,7 @@ no_state =
 
 module _ (history : List Traced) (legal : IsLegal history) (pass : PassNo) (worker : Bool) (pool : Option (List ℕ)) (tell : Option ContextId) (id : DeploymentId) (states : List (List ℤ)) (mark : Mark) where
   abbrev deploying : ℕ → Traced
-  deploying count = stated pass (calls.Deploy worker pool tell count) (replies.Deployment id) states mark
+  deploying count = entry_of pass (calls.Deploy worker pool tell count) (replies.Deployment id) states mark
 
   abbrev deployed : ℕ → List Traced
   deployed count = history ++ deploying count ∷ []

@@ -35,7 +35,7 @@ use Rattle.vx_call.proofs.Legal.{legal_front}
 use Rattle.vx_call.proofs.Once.{any_each, any_none}
 use Rattle.vx_call.proofs.Tasks.{some_front, some_behind}
 use Rattle.vx_laws.proofs.Overlap.{not_running}
-use Rattle.vx_laws.proofs.Running.{open_found, made_found, taken_open, some_passes}
+use Rattle.vx_laws.proofs.Running.{open_found, open_is_there, made_found, taken_open, some_passes, holds_taken}
 use Rattle.vx_instances.specs.Kept.{Kept, put_if, state_if, state_in, put_at, without_any}
 use Rattle.vx_instances.specs.Instances.{is_of_verticle, instances, handler_in, verticle_state, gives, gave}
 use Rattle.vx_instances.proofs.Maps.{IsAway, state_map, away_map, without_map}
@@ -263,3 +263,26 @@ module _ (history : List Traced) (legal : IsLegal history) (pass : PassNo) (end 
             (away_map ended id (verticles ended)
             (any_none (is_context_of id) (verticles ended) (Each-filter IsOther IsOther is_of_verticle (open_contexts ended) (λ other passes differs. differs) (any_each (is_context_of id) (open_contexts ended) gone)))).state)
       ] refl
+
+-- ## What a pass holds that took a verticle
+
+module _ (history : List Traced) (legal : IsLegal history) (new : Traced) (lane : Lane) (task : Task) (may : MayFollow history new) (is_call : new.entry.call ≡ calls.Take lane) (is_reply : new.entry.reply ≡ replies.Task task) where
+  holds_as : (o : Option ContextId) → handler_in history (replies.Task task) ≡ o → is_some (verticle_state history o) ≡ is_some (deployment_of_held (history ++ new ∷ []) o)
+  holds_as None is = refl
+  holds_as (Some id) is =
+      let answered : replies.Task task ≡ answer history new.entry.pass (calls.Take lane) = sym is_reply ∙ may.answered ∙ ap (answer history new.entry.pass) is_call in
+      let taken = taken_open history new.entry.pass lane task legal answered in
+      let same = of_handler (mode_of history task) (context_of history task) taken.context id taken.owned is in
+      let here : is_open history id ≡ true = ap (is_open history) (sym same) ∙ taken.here in
+      let there = open_is_there history id here in
+      let still : context_at (history ++ new ∷ []) id ≡ context_at history id = keeps_context_at history new id there.0 there.1 ∙ sym there.1 in
+      elim (is_verticle (context_at history id)) as (λ b. is_verticle (context_at history id) ≡ b → is_some (cond b (state_at history id) None) ≡ is_some (cond b (Some (deployment_of id)) None)) [
+        | true ↦ λ verticle. has_state history legal id here verticle
+        | false ↦ λ outside. refl
+      ] refl
+      ∙ ap (λ o. is_some (cond (is_verticle o) (Some (deployment_of id)) None)) (sym still)
+
+  -- a pass that took a task was handed a verticle out exactly where the task is of one
+  pub gave_taken : is_some (gives history (calls.Take lane) (replies.Task task)) ≡ gave (history ++ new ∷ []) new.entry.pass
+  gave_taken =
+      holds_as (handler_in history (replies.Task task)) refl ∙ ap (λ o. is_some (deployment_of_held (history ++ new ∷ []) o)) (sym (holds_taken history new lane task is_call is_reply may))

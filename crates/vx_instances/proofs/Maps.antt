@@ -88,9 +88,10 @@ state_map history id (c ∷ cs) any =
 pub record IsAway (id : ContextId) (kept : List Kept) : Type 0 where
   pub state : state_in id kept ≡ None
   pub put : (state : Option (List ℤ)) → put_at id state kept ≡ kept
+  pub gone : without id kept ≡ kept
 
 pub away_map : (history : List Traced) (id : ContextId) (cs : List Context) → list_any (is_context_of id) cs ≡ false → IsAway id (map (kept_of history) cs)
-away_map history id [] none = record { state = refl; put = λ state. refl }
+away_map history id [] none = record { state = refl; put = λ state. refl; gone = refl }
 away_map history id (c ∷ cs) none =
     let ks = map (kept_of history) cs in
     elim (same_context id c.id) as (λ b. same_context id c.id ≡ b → (b || list_any (is_context_of id) cs) ≡ false → IsAway id (kept_of history c ∷ ks)) [
@@ -99,5 +100,6 @@ away_map history id (c ∷ cs) none =
           (let rest = away_map history id cs none in record {
             state = ap (λ b. cond b (kept_of history c).state (state_in id ks)) other ∙ rest.state;
             put = λ state. ap (λ b. cond b (record { context = c.id; state = state } ∷ ks) (kept_of history c ∷ put_at id state ks)) other ∙ ap (λ ys. kept_of history c ∷ ys) (rest.put state);
+            gone = ap (λ b. cond b ks (kept_of history c ∷ without id ks)) other ∙ ap (λ ys. kept_of history c ∷ ys) rest.gone;
           })
     ] refl none

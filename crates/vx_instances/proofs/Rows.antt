@@ -19,7 +19,7 @@ use Rattle.vx_call.specs.declared.reply.Reply.TheVariants as replies
 use Rattle.vx_call.specs.declared.reply.Task.{Task}
 use Rattle.vx_call.specs.declared.history.Mark.{Mark}
 use Rattle.vx_call.specs.declared.history.Traced.{Traced}
-use Rattle.vx_call.specs.History.{Kind, is_accepted, made_by, ended_by, lasting}
+use Rattle.vx_call.specs.History.{Kind, entry_of, is_accepted, made_by, ended_by, lasting}
 use Rattle.vx_call.specs.Closings.{closing_by, closes, open_context_kind, open_contexts}
 use Rattle.vx_call.specs.Contexts.{context_made}
 use Rattle.vx_call.specs.Given.{context_of, mode_of}
@@ -28,14 +28,13 @@ use Rattle.vx_call.specs.Kinds.{kind_of}
 use Rattle.vx_call.specs.Machine.{IsLegal}
 use Rattle.vx_call.specs.Names.{next_entry}
 use Rattle.vx_call.specs.States.{state_made, states_ended, state_kind, state_at}
-use Rattle.vx_call.proofs.Lasting.{lasting-append, lasting_same, lasting_more, and_false}
+use Rattle.vx_call.proofs.Lasting.{lasting_none, lasting-append, lasting_same, lasting_more, and_false}
 use Rattle.vx_call.proofs.Apart.{Apart, Apart-filter}
 use Rattle.vx_call.proofs.Contexts.{same_by_id, same_context-swap, same_context-true}
 use Rattle.vx_call.proofs.Filters.{filter_swap}
 use Rattle.vx_laws.proofs.Running.{open_apart, handlers_apart, passes_apart, none_after, others_run}
 use Rattle.vx_instances.specs.Kept.{Kept, put_if, without_any}
 use Rattle.vx_instances.specs.Instances.{kept_of, is_of_verticle, instances, handler_in}
-use Rattle.vx_instances.specs.Laws.{stated}
 use Rattle.vx_instances.proofs.Maps.{map_each, each_any, put_map, without_map}
 
 -- ## Entries that leave what runs, and each state
@@ -82,7 +81,7 @@ leaves_call history new still =
       states = λ id. ap (find (λ state. true)) (lasting_same (state_kind id) history new (if_none ok _ (none_stated id history new call still)) (λ state. ap (λ b. ok && b) (none_restated id history pass call still) ∙ and_false ok));
     }
 
-refused_same : {A : Type 0} (kind : Kind A) (history : List Traced) (new : Traced) → is_accepted new.entry.reply ≡ false → lasting kind (history ++ new ∷ []) ≡ lasting kind history
+pub refused_same : {A : Type 0} (kind : Kind A) (history : List Traced) (new : Traced) → is_accepted new.entry.reply ≡ false → lasting kind (history ++ new ∷ []) ≡ lasting kind history
 refused_same kind history new refused = lasting_same kind history new (ap (λ b. cond b (kind.made history new) []) refused) (λ x. ap (λ b. b && kind.ended history new x) refused)
 
 leaves_refused : (history : List Traced) (new : Traced) → is_accepted new.entry.reply ≡ false → Leaves history new
@@ -148,6 +147,10 @@ verticles_left history new ok no_deploy no_close =
 
 -- ## Entries that leave what runs, and each state
 
+-- at first none is there
+pub none_at_first : [] ≡ instances []
+none_at_first = ap (λ cs. map (kept_of []) (filter is_of_verticle cs)) (sym (lasting_none open_context_kind))
+
 -- a refused entry changes nothing
 pub refused_row : (history : List Traced) (new : Traced) → is_accepted new.entry.reply ≡ false → instances (history ++ new ∷ []) ≡ instances history
 refused_row history new refused =
@@ -205,7 +208,7 @@ close_row history new ok is_call =
 
 module _ (history : List Traced) (pass : PassNo) (lane : Lane) (states : List (List ℤ)) (mark : Mark) where
   abbrev taking : Reply → Traced
-  taking reply = stated pass (calls.Take lane) reply states mark
+  taking reply = entry_of pass (calls.Take lane) reply states mark
 
   take_states : (reply : Reply) (id : ContextId) → state_at (history ++ taking reply ∷ []) id ≡ state_at history id
   take_states reply id = ap (find (λ state. true)) (lasting_same (state_kind id) history (taking reply) (if_none (is_accepted reply) [] refl) (λ state. and_false (is_accepted reply)))
@@ -275,7 +278,7 @@ module _ (history : List Traced) (pass : PassNo) (lane : Lane) (states : List (L
 
 module _ (history : List Traced) (legal : IsLegal history) (pass : PassNo) (end : End) (states : List (List ℤ)) (mark : Mark) where
   abbrev pub finishing : Traced
-  finishing = stated pass (calls.Finish end) replies.Done states mark
+  finishing = entry_of pass (calls.Finish end) replies.Done states mark
 
   abbrev pub finished : List Traced
   finished = history ++ finishing ∷ []

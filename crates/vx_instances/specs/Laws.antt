@@ -13,15 +13,12 @@ use Rattle.vx_call.specs.declared.history.Mark.{Mark}
 use Rattle.vx_call.specs.declared.history.Traced.{Traced}
 use Rattle.vx_call.specs.Closings.{is_open}
 use Rattle.vx_call.specs.Contexts.{context_at, is_verticle}
+use Rattle.vx_call.specs.History.{entry_of}
 use Rattle.vx_call.specs.Held.{held_context}
 use Rattle.vx_call.specs.Machine.{MayFollow}
 use Rattle.vx_call.specs.States.{state_at}
 use Rattle.vx_instances.specs.Kept.{state_in, state_if}
 use Rattle.vx_instances.specs.Instances.{instances, handler_in, gives}
-
--- an entry, with the states that go with its call
-abbrev pub stated : PassNo → Call → Reply → List (List ℤ) → Mark → Traced
-stated pass call reply states mark = record { entry = record { pass = pass; call = call; reply = reply }; states = states; mark = mark }
 
 -- Where a Take hands out a handler's task of a verticle, the verticle is kept, with the state that it hands out.
 abbrev pub HandsOutWhatIsKept : List Traced → Type 0
@@ -37,5 +34,5 @@ EachHasState history = (context : ContextId) → is_open history context ≡ tru
 abbrev pub KeepsWhatComesBack : List Traced → Type 0
 KeepsWhatComesBack history =
     (pass : PassNo) (end : End) (state : List ℤ) (mark : Mark) (context : ContextId) → held_context history pass ≡ Some context → is_verticle (context_at history context) ≡ true →
-    state_in context (instances (history ++ stated pass (calls.Finish end) replies.Done (state ∷ []) mark ∷ []))
-    ≡ (if is_open (history ++ stated pass (calls.Finish end) replies.Done (state ∷ []) mark ∷ []) context then Some state else None)
+    state_in context (instances (history ++ entry_of pass (calls.Finish end) replies.Done (state ∷ []) mark ∷ []))
+    ≡ (if is_open (history ++ entry_of pass (calls.Finish end) replies.Done (state ∷ []) mark ∷ []) context then Some state else None)

@@ -119,10 +119,10 @@ module _ (test : Held → Bool) where
 -- ## Takes
 
 -- what the pass holds that takes a task
-abbrev taken_by : List Traced → PassNo → Lane → Task → Held
+abbrev pub taken_by : List Traced → PassNo → Lane → Task → Held
 taken_by before pass lane task = record { pass = pass; at = next_entry before; lane = lane; context = context_of before task; mode = mode_of before task; kind = kind_of task }
 
-taken : (before : List Traced) (new : Traced) (lane : Lane) (task : Task) → new.entry.call ≡ calls.Take lane → new.entry.reply ≡ replies.Task task → made_by held_kind before new ≡ taken_by before new.entry.pass lane task ∷ []
+pub taken : (before : List Traced) (new : Traced) (lane : Lane) (task : Task) → new.entry.call ≡ calls.Take lane → new.entry.reply ≡ replies.Task task → made_by held_kind before new ≡ taken_by before new.entry.pass lane task ∷ []
 taken before new lane task called replied =
     ap (λ reply. cond (is_accepted reply) (held_made before new.entry.pass new.entry.call reply) []) replied ∙ ap (λ call. held_made before new.entry.pass call (replies.Task task)) called
 

@@ -1,8 +1,9 @@
 -- Of the tasks that passes hold no two are handlers of one context, and each is of a context that was made before.
 use Rattle.std.proofs.Common.{◌≡◌, ℕ, ◌<◌, ◌≤◌, List, [], ◌∷◌, ◌++◌, length, refl, ap, sym, ◌∙◌, subst, arith}
-use Rattle.std.specs.Prelude.{Bool, true, false, not, cond, ◌||◌, ◌==◌, filter, find, Option, None, Some}
+use Rattle.std.specs.Prelude.{◌&&◌, Bool, true, false, not, cond, ◌||◌, ◌==◌, filter, find, Option, None, Some}
 use Rattle.std.specs.List.{list_any}
 use Rattle.std.specs.Option.{option_and_then, option_or}
+use Rattle.std.proofs.lemmas.Bool.{eq-eqb}
 use Rattle.std.proofs.lemmas.Bool.Decides.{nat_tests}
 use Rattle.std.proofs.lemmas.List.{length_push}
 use Rattle.vx_data.specs.declared.ids.ContextId.{ContextId}
@@ -23,14 +24,14 @@ use Rattle.vx_call.specs.History.{is_accepted, made_by, ended_by}
 use Rattle.vx_call.specs.Contexts.{contexts, context_at, is_context_of}
 use Rattle.vx_call.specs.Closings.{open_context_kind, open_contexts, is_open}
 use Rattle.vx_call.specs.Given.{context_of, mode_of}
-use Rattle.vx_call.specs.Held.{held_made, held_kind, held, is_of_context, handler_context, context_held}
+use Rattle.vx_call.specs.Held.{context_held, handler_context, held, held_context, held_kind, held_made, is_finished, is_of_context}
 use Rattle.vx_call.specs.Items.{Waiting, waiting}
 use Rattle.vx_call.specs.Machine.{IsLegal, MayFollow, answer}
-use Rattle.vx_call.proofs.Lasting.{lasting-append, lasting_none}
+use Rattle.vx_call.proofs.Lasting.{and_false, lasting-append, lasting_more, lasting_none}
 use Rattle.vx_call.proofs.Each.{Each, Each-back, Each-filter, Each-find, accepted, by_entries, lasting_each, weaken}
 use Rattle.vx_call.proofs.Apart.{Apart, Apart-filter, Apart-cross, lasting_apart, lasting_earlier}
 use Rattle.vx_call.proofs.Contexts.{same_context-self, same_context-swap, same_context-true, context_key, same_by_id, same_entry, new_contexts_apart, contexts_found, context_at_earlier, contexts-append, keeps_context_at}
-use Rattle.vx_call.proofs.Found.{same_number}
+use Rattle.vx_call.proofs.Found.{find_end, same_number}
 use Rattle.vx_call.proofs.Legal.{legal_front}
 use Rattle.vx_call.proofs.Once.{any_none, any_each}
 use Rattle.vx_call.proofs.Owners.{waiting_owned}
@@ -41,7 +42,7 @@ use Rattle.vx_call.specs.Next.{next}
 use Rattle.vx_call.specs.Refusals.{spent, already_holding, holding_refusal}
 use Rattle.vx_call.specs.Rows.{take_refusal, handed_out}
 use Rattle.vx_laws.proofs.Handed.{waited, not_closed, not_refused}
-use Rattle.vx_laws.proofs.Overlap.{not_running, refused_none}
+use Rattle.vx_laws.proofs.Overlap.{Starts, taken_by, taken, not_running, refused_none}
 use Rattle.vx_laws.proofs.Resting.{Rests, waiting_rests}
 use Rattle.vx_laws.proofs.Splits.{Each-any}
 
@@ -137,7 +138,8 @@ held_of_made history legal =
     (lasting_each held_kind LegalMade (λ history new h stays before. made_on history new h before)
     (λ history new. accepted (LegalMade (history ++ new ∷ [])) _ _ (λ ok. new_made history new new.entry.call new.entry.reply refl refl)) history)
 
-handler_is : (mode : Mode) (o : Option ContextId) (context : ContextId) → handler_context mode o ≡ Some context → o ≡ Some context
+-- the context whose handler a task is, is the one that the task is of
+pub handler_is : (mode : Mode) (o : Option ContextId) (context : ContextId) → handler_context mode o ≡ Some context → o ≡ Some context
 handler_is modes.Handler o context is = is
 handler_is modes.Ordered o context is = absurd cc
 handler_is modes.Free o context is = absurd cc
@@ -283,6 +285,18 @@ holds_none history new lane task is_call is_reply may =
     let answered : answer history pass (calls.Take lane) ≡ replies.Task task = sym (ap (answer history pass) is_call) ∙ sym may.answered ∙ is_reply in
     let row = not_closed (hub_closed_at history) _ task (not_refused (option_or (spent history) None) _ task answered) in
     none_held pass (held history) (either_first (already_holding history pass) _ (refused_none (take_refusal history pass lane) reply task row))
+
+-- the task that a pass has taken is the one that it holds: its handler is that of the context that the task is of
+pub holds_taken : (history : List Traced) (new : Traced) (lane : Lane) (task : Task) → new.entry.call ≡ calls.Take lane → new.entry.reply ≡ replies.Task task → MayFollow history new →
+    held_context (history ++ new ∷ []) new.entry.pass ≡ handler_context (mode_of history task) (context_of history task)
+holds_taken history new lane task is_call is_reply may =
+    let pass = new.entry.pass in
+    let ok = is_accepted new.entry.reply in
+    let it = taken_by history pass lane task in
+    let all : held (history ++ new ∷ []) ≡ held history ++ it ∷ [] =
+    lasting_more held_kind history new (λ h. ap (λ call. ok && is_finished pass call h) is_call ∙ and_false ok) ∙ ap (λ made. held history ++ made) (taken history new lane task is_call is_reply) in
+    ap (λ hs. option_and_then context_held (find (λ (h : Held). h.pass.0 == pass.0) hs)) all
+    ∙ ap (option_and_then context_held) (find_end (λ (h : Held). h.pass.0 == pass.0) (held history) it (holds_none history new lane task is_call is_reply may) (eq-eqb pass.0 pass.0 refl))
 
 other_pass : (history : List Traced) (new : Traced) (call : Call) (reply : Reply) → new.entry.call ≡ call → new.entry.reply ≡ reply → MayFollow history new →
     Each (λ x. Each (λ y. same_pass x y ≡ false) (held_made history new.entry.pass call reply)) (held history)

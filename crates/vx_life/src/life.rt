@@ -1,4 +1,4 @@
-ghost use Rattle.std.specs.Prelude.{◌≡◌, ℕ, ◌+◌, ◌-◌, ◌%◌, ◌^◌, ◌<◌, ◌≤◌, ◌++◌, not, if◌then◌else◌, true, List, [], ◌∷◌, map, filter, find, slice_get, Option, None, Some, All, OnOk, OnErr};
+ghost use Rattle.std.specs.Prelude.{◌≡◌, ℕ, ◌+◌, ◌-◌, ◌%◌, ◌^◌, ◌<◌, ◌≤◌, ◌++◌, not, if◌then◌else◌, true, List, [], ◌∷◌, map, filter, find, slice_get, length, Option, None, Some, All, OnOk, OnErr};
 ghost use Rattle.std.specs.List.{list_any};
 ghost use Rattle.std.specs.Option.{option_or, option_map};
 ghost use Rattle.vx_data.specs.Ids.{same_context, same_deployment};
@@ -219,6 +219,13 @@ impl Life {
         ensures told { self.new ≡ record self.old { tree = record self.old.tree { to_stop = without_any result self.old.tree.to_stop } } }
     {
         self.tree.next_stop()
+    }
+
+    /// How many deployments were made, those that are gone included.
+    pub fn deployment_count(&self) -> usize
+        ensures { result ≡ length self.now.records }
+    {
+        self.records.len()
     }
 
     /// The context that is told that a deployment was made.

@@ -10,6 +10,7 @@ use Rattle.vx_call.specs.declared.call.Call.TheVariants as calls
 use Rattle.vx_call.specs.declared.reply.Reply.{Reply}
 use Rattle.vx_call.specs.declared.history.Mark.{Mark}
 use Rattle.vx_call.specs.declared.history.Traced.{Traced}
+pub use Rattle.vx_call.specs.History.{entry_of}
 use Rattle.vx_call.specs.Loops.{sets_loops, standard_made}
 use Rattle.vx_call.specs.Contexts.{context_made}
 use Rattle.vx_call.specs.Deployments.{Deployment, deployment_made, deployed_ids, deployments}
@@ -19,10 +20,6 @@ use Rattle.vx_call.specs.Stopping.{stop_made}
 use Rattle.vx_call.specs.Closings.{closes, close_made}
 use Rattle.vx_call.specs.Askings.{asked_by, is_asking_of, askings}
 use Rattle.vx_call.proofs.Each.{Each}
-
--- the entry of a call, with its reply, the states that go with it and its mark
-abbrev pub entry_of : PassNo → Call → Reply → List (List ℤ) → Mark → Traced
-entry_of pass call reply states mark = record { entry = record { pass = pass; call = call; reply = reply }; states = states; mark = mark }
 
 -- the entry deploys nothing; contexts that it makes are outside ones
 pub record DeploysNothing (history : List Traced) (new : Traced) : Type 0 where

@@ -11,7 +11,7 @@ use Rattle.vx_line.specs.Reading.{options_of}
 abbrev pub is_one_of : List (List ℕ) → List ℕ → Bool
 is_one_of words word = list_any (bytes_eq word) words
 
--- a command, and what stands behind it: an option, or a first piece right behind the command
+-- a command, and an option that stands behind it
 abbrev pub Pair : Type 0
 Pair = List ℕ × List ℕ
 
@@ -32,11 +32,7 @@ later_kinds = codes "ticker" ∷ codes "blocker" ∷ codes "late" ∷ []
 -- ## What is read and is not on: the hub does not make it yet
 
 abbrev pub off : List (List ℕ)
-off = codes "loops" ∷ codes "pool" ∷ codes "deploy" ∷ codes "undeploy" ∷ codes "started" ∷ codes "stopped" ∷ codes "work" ∷ codes "close" ∷ []
-
-abbrev pub off_pieces : List Pair
-off_pieces =
-    (codes "take", codes "loop") ∷ (codes "take", codes "pool") ∷ (codes "take", codes "named") ∷ (codes "finish", codes "later") ∷ (codes "finish", codes "value") ∷ (codes "finish", codes "fail") ∷ (codes "finish", codes "nomemory") ∷ []
+off = codes "work" ∷ []
 
 -- ## What is on
 
@@ -55,14 +51,11 @@ has_later_kind word tail = bytes_eq word (codes "deploy") && is_one_of later_kin
 abbrev pub is_later : List ℕ → List ℕ → Bool
 is_later word tail = is_one_of later word || has_later_option word tail || has_later_kind word tail
 
-abbrev pub has_off_piece : List ℕ → List ℕ → Bool
-has_off_piece word tail = list_any (λ (pair : Pair). bytes_eq word pair.0 && bytes_eq (first_word (without_spaces tail)) pair.1) off_pieces
-
 -- it is read, and the hub does not make it yet
-abbrev pub is_off : List ℕ → List ℕ → Bool
-is_off word tail = is_one_of off word || has_off_piece word tail
+abbrev pub is_off : List ℕ → Bool
+is_off word = is_one_of off word
 
 -- whether the command, with what stands behind it, is one of these
 abbrev pub is_on : Scope → List ℕ → List ℕ → Bool
-is_on scopes.Made word tail = not (is_later word tail) && not (is_off word tail)
+is_on scopes.Made word tail = not (is_later word tail) && not (is_off word)
 is_on scopes.Read word tail = not (is_later word tail)

@@ -21,20 +21,7 @@ const LATER_OPTIONS: [(&str, &str); 1] = [("request", "+once")];
 const LATER_KINDS: [&str; 3] = ["ticker", "blocker", "late"];
 
 /// Commands that are read, and that the hub does not make yet. To turn one on, take it from here and from the definition.
-const OFF: [&str; 8] = [
-    "loops", "pool", "deploy", "undeploy", "started", "stopped", "work", "close",
-];
-
-/// Commands, each with a first piece right behind it, that are read, and that the hub does not make yet.
-const OFF_PIECES: [(&str, &str); 7] = [
-    ("take", "loop"),
-    ("take", "pool"),
-    ("take", "named"),
-    ("finish", "later"),
-    ("finish", "value"),
-    ("finish", "fail"),
-    ("finish", "nomemory"),
-];
+const OFF: [&str; 1] = ["work"];
 
 /// Whether the word is one of these commands, and an option behind it is the one that goes with it.
 fn has_one_option(word: &[u8], tail: &[u8], options: &[(&str, &str)]) -> bool
@@ -69,28 +56,12 @@ fn is_later(word: &[u8], tail: &[u8]) -> bool
     is_among(word, later.as_slice()) || has_later_option(word, tail) || has_later_kind(word, tail)
 }
 
-/// Whether the two words are a command and the piece that goes with it.
-fn is_one_pair(word: &[u8], piece: &[u8], pairs: &[(&str, &str)]) -> bool
-    ensures { result ≡ list_any (λ pair. bytes_eq word.now pair.0.now && bytes_eq piece.now pair.1.now) pairs.now }
-{
-    pairs.iter().any(|(command, other)| word == command.as_bytes() && piece == other.as_bytes())
-}
-
-/// Whether the hub does not make the command yet with the piece right behind it.
-fn has_off_piece(word: &[u8], tail: &[u8]) -> bool
-    ensures { result ≡ tables.has_off_piece word.now tail.now }
-{
-    let pieces: [(&str, &str); 7] = OFF_PIECES;
-    let (piece, _) = split_word(trim(tail));
-    is_one_pair(word, piece, pieces.as_slice())
-}
-
 /// Whether the hub does not make the command yet.
-fn is_off(word: &[u8], tail: &[u8]) -> bool
-    ensures { result ≡ tables.is_off word.now tail.now }
+fn is_off(word: &[u8]) -> bool
+    ensures { result ≡ tables.is_off word.now }
 {
-    let off: [&str; 8] = OFF;
-    is_among(word, off.as_slice()) || has_off_piece(word, tail)
+    let off: [&str; 1] = OFF;
+    is_among(word, off.as_slice())
 }
 
 /// Whether the command, with what stands behind it, is one of these.
@@ -98,7 +69,7 @@ pub fn is_on(scope: Scope, word: &[u8], tail: &[u8]) -> bool
     ensures { result ≡ tables.is_on scope word.now tail.now }
 {
     match scope {
-        Scope::Made => !is_later(word, tail) && !is_off(word, tail),
+        Scope::Made => !is_later(word, tail) && !is_off(word),
         Scope::Read => !is_later(word, tail),
     }
 }

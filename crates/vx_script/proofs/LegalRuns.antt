@@ -1,47 +1,84 @@
 -- The history of a script is legal.
-use Rattle.std.proofs.Common.{◌≡◌, ◌==◌, ℕ, ◌+◌, ◌^◌, ◌<◌, ◌≤◌, List, [], ◌∷◌, ◌++◌, length, length-append, refl, sym, ap, arith, Bool, true, false, cond, Option, Some, None, Result, Ok, Err, subst}
+use Rattle.std.proofs.Common.{◌≡◌, ◌==◌, ℕ, ◌+◌, ◌^◌, ◌<◌, ◌≤◌, List, [], ◌∷◌, ◌++◌, length, length-append, refl, sym, ◌∙◌, ap, arith, Bool, true, false, cond, Option, Some, None, Result, Ok, Err, subst}
+use Rattle.std.specs.Prelude.{ℤ, is_some, unwrap_or}
 use Rattle.std.specs.Option.{option_to_list}
 use Rattle.std.specs.List.{slice_split}
 use Rattle.std.specs.Str.Lines.{lines, lines_of_parts}
+use Rattle.std.proofs.lemmas.List.{length-replicate}
 use Rattle.std.proofs.lemmas.List.Sums.{count_by-le-length}
 use Rattle.std.proofs.lemmas.List.Splits.{length-slice_split}
+use Rattle.vx_data.specs.declared.ids.PassNo.{PassNo}
 use Rattle.vx_call.specs.declared.history.Traced.{Traced}
-use Rattle.vx_call.specs.Built.{is_built, AreBuilt}
+use Rattle.vx_call.specs.declared.call.Call.{Call}
+use Rattle.vx_call.specs.declared.call.Call.TheVariants as calls
+use Rattle.vx_call.specs.declared.call.End.{End}
 use Rattle.vx_call.specs.Passes.{passes}
-use Rattle.vx_call.specs.Machine.{answer, IsLegal}
-use Rattle.vx_call.proofs.Built.{built_more, no_mark_made}
+use Rattle.vx_call.specs.Plain.{is_plain}
+use Rattle.vx_call.specs.States.{states_due}
+use Rattle.vx_call.specs.Machine.{IsLegal}
 use Rattle.vx_call.proofs.Legal.{legal_none, legal_more}
-use Rattle.vx_hub.proofs.States.{no_states}
+use Rattle.vx_kinds.specs.Hosts.{first_state}
 use Rattle.vx_line.specs.declared.command.Command.{Command}
 use Rattle.vx_script.specs.declared.limit.TheConstants.{LIMIT}
 use Rattle.vx_line.specs.declared.scope.Scope.TheVariants.{Made}
+use Rattle.vx_line.specs.declared.instruction.Instruction.{Instruction}
+use Rattle.vx_line.specs.declared.instruction.Instruction.TheVariants as does
 use Rattle.vx_line.specs.Lines.{said_at}
-use Rattle.vx_line.specs.Made.{first_call}
-use Rattle.vx_line.proofs.Built.{made_built}
+use Rattle.vx_line.specs.Made.{first_call, is_made}
+use Rattle.vx_line.proofs.Built.{made_plain}
 use Rattle.vx_line.specs.Reasons.{reason}
 use Rattle.vx_script.specs.Lines.{Bad, passes_after, with_front, with_line, commands_from, commands_of, AreThere, AreMade}
-use Rattle.vx_script.specs.Playing.{history_from, history_of}
+use Rattle.vx_script.specs.Playing.{history_from, history_of, state_held, states_with}
+use Rattle.vx_script.proofs.Counts.{passes_more, passes_none}
+use Rattle.vx_script.proofs.Histories.{behind_more, following}
+use Rattle.vx_script.proofs.HeldOn.{at_first}
+use Rattle.vx_script.proofs.Holding.{AllGiven, all_given}
 use Rattle.vx_script.proofs.MadeLines.{script_made}
-use Rattle.vx_script.proofs.Counts.{next, passes_more, passes_none}
-use Rattle.vx_script.proofs.Histories.{played_more}
 use Rattle.vx_script.proofs.Theres.{script_there}
 
-played_legal : (h : List Traced) (c : Command) → IsLegal h → AreBuilt h → is_built (first_call c.instruction) ≡ true → length h < 2 ^ 48 → c.pass.0 < passes h → IsLegal (h ++ next h c.pass (first_call c.instruction) ∷ [])
-played_legal h c legal built is few known =
-    legal_more h (next h c.pass (first_call c.instruction)) legal (record { known = known; answered = refl; room = few; stated = sym (no_states h c.pass (first_call c.instruction) built is); mark = refl })
+plain_due : (h : List Traced) (pass : PassNo) (call : Call) → is_plain call ≡ true → 0 ≡ states_due h pass call
+plain_due h pass (calls.Deploy worker pool tell count) plain = absurd cc
+plain_due h pass (calls.Finish end) plain = absurd cc
+plain_due h pass call plain = refl
 
-played_built : (h : List Traced) (c : Command) → AreBuilt h → is_built (first_call c.instruction) ≡ true → AreBuilt (h ++ next h c.pass (first_call c.instruction) ∷ [])
-played_built h c built is = built_more h (next h c.pass (first_call c.instruction)) built (record { call = is; mark = no_mark_made h c.pass (first_call c.instruction) (answer h c.pass (first_call c.instruction)) built is })
+listed : (o : Option (List ℤ)) → length (option_to_list o) ≡ cond (is_some o) 1 0
+listed None = refl
+listed (Some state) = refl
 
-legal_after : (h : List Traced) (cs : List Command) → IsLegal h → AreBuilt h → length h + length cs ≤ 2 ^ 48 → AreThere (passes h) cs → AreMade cs → IsLegal (history_from h cs)
-legal_after h [] legal built few there are = legal
-legal_after h (c ∷ cs) legal built few there are =
+-- as many states come with an instruction as go with its call
+states_fit : (h : List Traced) (pass : PassNo) (done : Instruction) → AllGiven h → is_made done ≡ true → length (states_with h pass done) ≡ states_due h pass (first_call done)
+states_fit h pass (does.Call call) given made = plain_due h pass call (made_plain call made)
+states_fit h pass (does.Deploy options spec instances) given made = length-replicate instances (unwrap_or (first_state spec) [])
+states_fit h pass (does.Take lane) given made = refl
+states_fit h pass (does.Finish end) given made = listed (state_held h pass) ∙ ap (λ b. cond b 1 0) (given pass)
+states_fit h pass (does.Work lane) given made = absurd cc
+
+-- the one that ends a task gives back the state that it finds
+gives_back : (h : List Traced) (pass : PassNo) (done : Instruction) → is_made done ≡ true → (end : End) → first_call done ≡ calls.Finish end → states_with h pass done ≡ option_to_list (state_held h pass)
+gives_back h pass (does.Call call) made end is = absurd (let e : true ≡ false = sym (made_plain call made) ∙ ap is_plain is in cc)
+gives_back h pass (does.Deploy options spec instances) made end is = absurd cc
+gives_back h pass (does.Take lane) made end is = absurd cc
+gives_back h pass (does.Finish other) made end is = refl
+gives_back h pass (does.Work lane) made end is = absurd cc
+
+-- a history in which each pass holds a verticle where one was handed out to it
+record Runs (h : List Traced) : Type 0 where
+  legal : IsLegal h
+  given : AllGiven h
+
+runs_on : (h : List Traced) (c : Command) → Runs h → is_made c.instruction ≡ true → length h < 2 ^ 48 → c.pass.0 < passes h → Runs (h ++ following h c ∷ [])
+runs_on h c runs made few known =
+    let legal = legal_more h (following h c) runs.legal (record { known = known; answered = refl; room = few; stated = states_fit h c.pass c.instruction runs.given made; mark = refl }) in
+    record { legal = legal; given = all_given h (following h c) legal (gives_back h c.pass c.instruction made) runs.given }
+
+legal_after : (h : List Traced) (cs : List Command) → Runs h → length h + length cs ≤ 2 ^ 48 → AreThere (passes h) cs → AreMade cs → IsLegal (history_from h cs)
+legal_after h [] runs few there are = runs.legal
+legal_after h (c ∷ cs) runs few there are =
     let small : length h < 2 ^ 48 = omega arith in
-    let longer = h ++ next h c.pass (first_call c.instruction) ∷ [] in
-    let more : AreThere (passes longer) cs = subst (λ (v : ℕ). AreThere v cs) (sym (passes_more h c.pass (first_call c.instruction) small)) there.1 in
-    let rest : IsLegal (history_from longer cs) =
-    legal_after longer cs (played_legal h c legal built (made_built c.instruction are.0) small there.0) (played_built h c built (made_built c.instruction are.0)) (omega (arith, length-append h (next h c.pass (first_call c.instruction) ∷ []))) more are.1 in
-    subst (λ (v : List Traced). IsLegal (history_from v cs)) (sym (played_more h c.pass (first_call c.instruction) small)) rest
+    let longer = h ++ following h c ∷ [] in
+    let more : AreThere (passes longer) cs = subst (λ (v : ℕ). AreThere v cs) (sym (passes_more h c.pass (first_call c.instruction) (states_with h c.pass c.instruction) small)) there.1 in
+    let rest : IsLegal (history_from longer cs) = legal_after longer cs (runs_on h c runs are.0 small there.0) (omega (arith, length-append h (following h c ∷ []))) more are.1 in
+    subst (λ (v : List Traced). IsLegal (history_from v cs)) (sym (behind_more h c small)) rest
 
 one_at_most : (said : Option Command) → length (option_to_list said) ≤ 1
 one_at_most None = omega arith
@@ -81,5 +118,5 @@ lines_few bytes = omega (arith, parts_few (slice_split (λ b. b == 10) bytes), l
 pub legal_run : (bytes : List ℕ) (commands : List Command) → length bytes ≤ LIMIT → commands_of bytes ≡ Ok commands → IsLegal (history_of commands)
 unfolding commands_of
 legal_run bytes commands few made =
-    legal_after [] commands legal_none tt (omega (arith, commands_few 1 1 (lines bytes) commands made, lines_few bytes)) (subst (λ (v : ℕ). AreThere v commands) (sym passes_none) (script_there bytes commands made))
+    legal_after [] commands (record { legal = legal_none; given = at_first.given }) (omega (arith, commands_few 1 1 (lines bytes) commands made, lines_few bytes)) (subst (λ (v : ℕ). AreThere v commands) (sym passes_none) (script_there bytes commands made))
     (script_made bytes commands made)

@@ -1,5 +1,8 @@
 pub mod Scripts
 pub mod Cutting
+pub mod Holding
+pub mod HeldOn
+pub mod Deploying
 pub mod Counts
 pub mod Histories
 pub mod Theres

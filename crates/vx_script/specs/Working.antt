@@ -1,39 +1,29 @@
--- What a script's lines add to a history where verticles are deployed and work, over the kinds that a maker knows. It is the
--- definition for the hub that takes verticles; so far no line deploys or works. (This project's own.)
+-- What a script's lines add to a history where verticles work too, over the kinds that a maker knows. It is the definition for
+-- lines that work; so far no line does. (This project's own.)
 use Rattle.std.specs.Prelude.{◌≡◌, ◌⊎◌, ℤ, Bool, true, false, List, [], ◌∷◌, ◌++◌, length, All}
-use Rattle.std.specs.Option.{option_to_list, option_and_then}
 use Rattle.std.specs.List.{enumerate_from}
+use Rattle.std.specs.Option.{option_to_list}
 use Rattle.vx_data.specs.declared.ids.PassNo.{PassNo}
 use Rattle.vx_message.specs.declared.Lane.{Lane}
-use Rattle.vx_call.specs.declared.call.Call.{Call}
 use Rattle.vx_call.specs.declared.call.Call.TheVariants as calls
 use Rattle.vx_call.specs.declared.call.End.TheVariants as ends
 use Rattle.vx_call.specs.declared.reply.Reply.{Reply}
 use Rattle.vx_call.specs.declared.reply.Reply.TheVariants as replies
 use Rattle.vx_call.specs.declared.history.Traced.{Traced}
-use Rattle.vx_call.specs.Held.{held_context}
-use Rattle.vx_call.specs.Machine.{answer, extended_with, IsLegal}
+use Rattle.vx_call.specs.Machine.{answer, IsLegal}
 use Rattle.vx_call.specs.Runs.{played}
-use Rattle.vx_call.specs.States.{state_at}
 use Rattle.vx_verticle.specs.declared.verticle.ActResult.TheVariants as outcomes
 use Rattle.vx_verticle.specs.Played.{Meaning, Played}
 use Rattle.vx_line.specs.declared.command.Command.{Command}
 use Rattle.vx_line.specs.declared.instruction.Instruction.{Instruction}
 use Rattle.vx_line.specs.declared.instruction.Instruction.TheVariants as does
 use Rattle.vx_line.specs.Made.{first_call}
+use Rattle.vx_script.specs.Playing.{played_with, state_held}
 
 -- whether a Take gave a task
 abbrev pub gave_task : Reply → Bool
 gave_task (replies.Task task) = true
 gave_task _ = false
-
--- the state of the verticle whose handler task a pass holds: none of another has changed it since the task was taken
-abbrev pub state_held : List Traced → PassNo → List (List ℤ)
-state_held before pass = option_to_list (option_and_then (state_at before) (held_context before pass))
-
--- the history after a call that comes with these states, with the machine's reply
-abbrev pub played_with : List Traced → PassNo → Call → List (List ℤ) → List Traced
-played_with before pass call states = extended_with before pass call (answer before pass call) states
 
 module _ {R : Type 0} (m : Meaning R) where
   -- The history grows by a played stretch, in which no memory ran out.
@@ -52,7 +42,7 @@ module _ {R : Type 0} (m : Meaning R) where
   Follows before pass (does.Deploy options spec instances) after =
       (states : List (List ℤ)) × (length states ≡ instances) × All (m.makes spec) states × (after ≡ played_with before pass (first_call (does.Deploy options spec instances)) states)
   Follows before pass (does.Take lane) after = after ≡ played before pass (calls.Take lane)
-  Follows before pass (does.Finish end) after = after ≡ played_with before pass (calls.Finish end) (state_held before pass)
+  Follows before pass (does.Finish end) after = after ≡ played_with before pass (calls.Finish end) (option_to_list (state_held before pass))
   Follows before pass (does.Work lane) after =
       ((gave_task (answer before pass (calls.Take lane)) ≡ false) × (after ≡ played before pass (calls.Take lane))) ⊎ Works before pass lane after
 

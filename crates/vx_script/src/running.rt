@@ -9,7 +9,8 @@ ghost use Rattle.vx_laws.specs.Turns.{TakesTurns};
 ghost use Rattle.vx_laws.specs.Order.{TakesInOrder};
 ghost use Rattle.vx_laws.specs.Demand.{TakesAsFetched};
 ghost use Rattle.vx_laws.specs.Leaving.{TakesNothingOnceEnded};
-ghost use Rattle.vx_laws.specs.Overlap.{HandlersNeverOverlap};
+ghost use Rattle.vx_laws.specs.Overlap.{HandlersNeverOverlap, LoopsNeverOverlap};
+ghost use Rattle.vx_laws.specs.Undeploying.{EndsInOrder};
 ghost use Rattle.vx_script.specs.Playing.{history_of};
 ghost use Rattle.vx_script.specs.Outcome.{IsOutcome, IsSettled};
 
@@ -77,7 +78,8 @@ pub fn script<S: Source, K: Sink>(
 
     // In that history each message is delivered once, each request ends once, handlers take turns, each consumer's
     // messages are taken in the order in which it accepted them, no more of them behind a Pause than are fetched, none
-    // behind its end, and handlers of one context never overlap.
+    // behind its end. Handlers of one context never overlap, nor do tasks of one event loop. A verticle stops only once all
+    // children of its deployment are gone, and none is added then; of a closed context no task is taken.
     ensures delivered_once { (bytes : List ℕ) (commands : List Command) → length bytes ≤ LIMIT → commands_of bytes ≡ Ok commands → DeliversOnce (history_of commands) }
     ensures requests_end_once { (bytes : List ℕ) (commands : List Command) → length bytes ≤ LIMIT → commands_of bytes ≡ Ok commands → EndsRequestsOnce (history_of commands) }
     ensures handlers_take_turns { (bytes : List ℕ) (commands : List Command) → length bytes ≤ LIMIT → commands_of bytes ≡ Ok commands → TakesTurns (history_of commands) }
@@ -85,6 +87,8 @@ pub fn script<S: Source, K: Sink>(
     ensures taken_as_fetched { (bytes : List ℕ) (commands : List Command) → length bytes ≤ LIMIT → commands_of bytes ≡ Ok commands → TakesAsFetched (history_of commands) }
     ensures ended_take_nothing { (bytes : List ℕ) (commands : List Command) → length bytes ≤ LIMIT → commands_of bytes ≡ Ok commands → TakesNothingOnceEnded (history_of commands) }
     ensures never_overlap { (bytes : List ℕ) (commands : List Command) → length bytes ≤ LIMIT → commands_of bytes ≡ Ok commands → HandlersNeverOverlap (history_of commands) }
+    ensures loops_never_overlap { (bytes : List ℕ) (commands : List Command) → length bytes ≤ LIMIT → commands_of bytes ≡ Ok commands → LoopsNeverOverlap (history_of commands) }
+    ensures ends_in_order { (bytes : List ℕ) (commands : List Command) → length bytes ≤ LIMIT → commands_of bytes ≡ Ok commands → EndsInOrder (history_of commands) }
 
     // Good lines, not too many, are made and answered, unless a read or a write fails, or memory runs out.
     ensures complete { (bytes : List ℕ) (commands : List Command) → words.now ≡ codes "run" ∷ [] → S.left source.old ≡ Some bytes

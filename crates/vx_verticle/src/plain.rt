@@ -1,5 +1,6 @@
 //! The calls that a handler has made for it.
-ghost use Rattle.std.specs.Prelude.{◌≡◌, IsTrue};
+ghost use Rattle.std.specs.Prelude.{◌≡◌, IsTrue, true};
+ghost use Rattle.vx_call.specs.Plain.{is_plain};
 ghost use Rattle.vx_verticle.specs.Calls.{call_of, is_message_act, is_bus_act, is_life_act};
 
 use vx_call::Call;
@@ -160,9 +161,11 @@ impl Drop for PlainAct {
 }
 
 impl PlainAct {
-    /// The call that the act comes to. Where it names a context, that is this one, the handler's own.
+    /// The call that the act comes to. Where it names a context, that is this one, the handler's own. It is one that
+    /// nothing goes along with.
     pub fn into_call(self, context: ContextId) -> Call
-        ensures { result ≡ call_of context self }
+        ensures call { result ≡ call_of context self }
+        ensures plain { is_plain result ≡ true }
     {
         if is_message_act(&self) {
             self.into_message_call(context)
@@ -175,7 +178,8 @@ impl PlainAct {
 
     fn into_message_call(self, context: ContextId) -> Call
         requires { IsTrue (is_message_act self) }
-        ensures { result ≡ call_of context self }
+        ensures call { result ≡ call_of context self }
+        ensures plain { is_plain result ≡ true }
     {
         match self {
             PlainAct::Send {
@@ -245,7 +249,8 @@ impl PlainAct {
 
     fn into_bus_call(self, context: ContextId) -> Call
         requires { IsTrue (is_bus_act self) }
-        ensures { result ≡ call_of context self }
+        ensures call { result ≡ call_of context self }
+        ensures plain { is_plain result ≡ true }
     {
         match self {
             PlainAct::Register { address, limit } => Call::Register {
@@ -280,7 +285,8 @@ impl PlainAct {
 
     fn into_life_call(self, context: ContextId) -> Call
         requires { IsTrue (is_life_act self) }
-        ensures { result ≡ call_of context self }
+        ensures call { result ≡ call_of context self }
+        ensures plain { is_plain result ≡ true }
     {
         match self {
             PlainAct::Undeploy { deployment, tell } => Call::Undeploy {

@@ -36,8 +36,17 @@ fn bad(line: u64, why: LineWhy) -> Status {
 }
 
 /// Scripts whose lines are all good, with the lines that they write. A `/` stands for a newline.
-static GOOD: [(&str, &str); 38] = [
+static GOOD: [(&str, &str); 66] = [
     ("", ""),
+    (
+        "context/deploy +tell:0 silent s 2/take loop 0/finish/take loop 1/finish fail 7/take loop 1/take loop 0/finish/take own 0",
+        "context 0/deployment 1/start 1/ok/start 1.1/ok/idle/stop 1/ok/deployend 1 fail 7/",
+    ),
+    (
+        "close/context/take pool/close",
+        "ok/refused 28 host closed 0/stopped/refused 28 host closed 0/",
+    ),
+    ("take loop 16", "refused 8 no lane/"),
     ("finish", "refused 5 not holding/"),
     ("send news 1/", "sent 0 to none/"),
     (
@@ -191,10 +200,146 @@ static GOOD: [(&str, &str); 38] = [
         "send a  \"x\\n\" /send a 9223372036854775807/send a\u{20}\t\t1\t/send a -9223372036854775808",
         "sent 0 to none/sent 1 to none/sent 2 to none/sent 3 to none/",
     ),
+    (
+        "pool p 1/deploy +worker +pool:p silent w 2/pass/take named 0/@1 take named 0/finish/@1 take named 0/\
+         pool p 2/deploy +worker +pool:q silent w 1/take named 9",
+        "pool 0/deployment 1/pass 1/start 1/idle/ok/start 1.1/refused 31 pool taken 0/refused 32 no pool/\
+         refused 8 no lane/",
+    ),
+    (
+        "pool a 0/pool a 21/pool a 20/pool a 21/pool a 1/pool b 1/pool c 1/pool d 1/pool e 1/pool f 1/pool g 1/\
+         pool h 1/pool i 1/pool a 1/deploy +pool:h silent s 1",
+        "refused 16 bad count/refused 16 bad count/pool 2/refused 16 bad count/refused 31 pool taken 2/pool 5/\
+         pool 6/pool 7/pool 8/pool 9/pool 10/pool 11/refused 16 bad count/refused 31 pool taken 2/deployment 14/",
+    ),
+    (
+        "deploy +worker silent w 2/take loop 0/pass/take pool/@1 take pool/finish/@1 finish",
+        "deployment 0/idle/pass 1/start 0/start 0.1/ok/ok/",
+    ),
+    (
+        "loops 0/loops 17/loops 1/deploy silent s 2/take loop 1/take loop 0/pass/@1 take loop 0/finish/\
+         @1 take loop 0",
+        "refused 16 bad count/refused 16 bad count/ok/deployment 3/idle/start 3/pass 1/refused 7 lane held 0/ok/\
+         start 3.1/",
+    ),
+    (
+        "loops 16/deploy silent s 17/take loop 15/finish/take loop 0/finish/take loop 0/finish/take loop 1",
+        "ok/deployment 1/start 1.15/ok/start 1/ok/start 1.16/ok/start 1.1/",
+    ),
+    (
+        "deploy silent s 0/deploy silent s 65/deploy silent s 1000/deploy silent s 64/take loop 1/finish/\
+         take loop 1/take own 3",
+        "refused 16 bad count/refused 16 bad count/refused 16 bad count/deployment 3/start 3.1/ok/start 3.3/\
+         refused 6 holding 6/",
+    ),
+    (
+        "deploy +tell:5 silent s 1/deploy +tell:0 silent s 1/pass/context/@1 context/deploy +tell:3 silent s 1/\
+         @1 deploy +tell:4 silent s 0/deploy +tell:4 silent s 1/@1 deploy +tell:3 +pool:p silent s 1",
+        "refused 1 no context/refused 1 no context/pass 1/context 3/context 4/deployment 5/refused 16 bad count/\
+         refused 4 not yours pass 1/refused 32 no pool/",
+    ),
+    (
+        "deploy silent s 1/deploy +tell:0 silent t 1/take loop 0/deploy +tell:0 silent t 1/started fail 7/\
+         deploy +tell:0 silent t 1/deploy silent t 1/finish/take loop 0/deploy +tell:0 silent t 1/take loop 1",
+        "deployment 0/refused 4 not yours context 0/start 0/deployment 3/ok/refused 2 context closed 4/\
+         refused 2 context closed 4/ok/idle/refused 4 not yours context 0/start 3/",
+    ),
+    (
+        "undeploy 0/deploy silent s 1/take loop 0/finish/undeploy +tell:9 1/undeploy 1/undeploy 1/take loop 0/\
+         finish/undeploy 1/take loop 0",
+        "refused 14 no deployment/deployment 1/start 1/ok/refused 1 no context/ok/refused 15 stopping 5/stop 1/\
+         ok/refused 14 no deployment/idle/",
+    ),
+    (
+        "deploy silent s 1/undeploy 0/take loop 0/finish/take loop 0/finish/close",
+        "deployment 0/ok/start 0/ok/stop 0/ok/ok/",
+    ),
+    (
+        "context/deploy silent s 1/take loop 0/finish/undeploy +tell:0 1/take own 0/take loop 0/finish fail 3/\
+         take own 0/finish/undeploy +tell:0 1",
+        "context 0/deployment 1/start 1/ok/ok/idle/stop 1/ok/undeployend 1/ok/refused 14 no deployment/",
+    ),
+    (
+        "deploy silent p 1/take loop 0/deploy silent c 1/finish/take loop 1/finish/undeploy 2/undeploy 2/\
+         take loop 1/finish/undeploy 2/take loop 0/undeploy 0/take loop 0/finish/close",
+        "deployment 0/start 0/deployment 2/ok/start 2/ok/ok/refused 15 stopping 6/stop 2/ok/\
+         refused 14 no deployment/idle/ok/stop 0/ok/ok/",
+    ),
+    (
+        "deploy silent p 1/take loop 0/deploy silent c 1/finish/take loop 1/finish/undeploy 0/take loop 0/\
+         take loop 1/undeploy 2/finish/take loop 0/deploy silent d 1/finish/undeploy 2/undeploy 0/close",
+        "deployment 0/start 0/deployment 2/ok/start 2/ok/ok/idle/stop 2/refused 15 stopping 6/ok/stop 0/\
+         refused 15 stopping 6/ok/refused 14 no deployment/refused 14 no deployment/ok/",
+    ),
+    (
+        "started/stopped/context/register 2 a/send a 1/take own 2/started/stopped/finish",
+        "refused 5 not holding/refused 5 not holding/context 2/consumer 3/sent 4 to 3/deliver 3 4 1/\
+         refused 14 no deployment/refused 14 no deployment/ok/",
+    ),
+    (
+        "context/deploy +tell:0 silent s 1/take loop 0/stopped/pass/@1 started/started/started/started fail 3/\
+         finish fail 4/take own 0/finish/undeploy 1/take loop 0/started/stopped/stopped/started/finish/\
+         take loop 0",
+        "context 0/deployment 1/start 1/refused 29 not pending/pass 1/refused 5 not holding/ok/\
+         refused 29 not pending/refused 29 not pending/ok/deployend 1 ok/ok/ok/stop 1/refused 29 not pending/ok/\
+         refused 2 context closed 15/refused 2 context closed 15/ok/idle/",
+    ),
+    (
+        "context/deploy +tell:0 silent s 1/take loop 0/started fail -5/take own 0/finish/take own 0/finish/\
+         undeploy 1",
+        "context 0/deployment 1/start 1/ok/refused 6 holding 2/ok/deployend 1 fail -5/ok/refused 14 no deployment/",
+    ),
+    (
+        "context/deploy +tell:0 silent s 1/take loop 0/finish nomemory/take own 0/finish/\
+         deploy +tell:0 silent s 1/take loop 1/started nomemory/finish value 1/take own 0",
+        "context 0/deployment 1/start 1/ok/deployend 1 nomemory/ok/deployment 6/start 6/ok/ok/deployend 6 nomemory/",
+    ),
+    (
+        "context/deploy +tell:0 silent s 1/take loop 0/register 1 a/finish later/take own 0/send a 1/take loop 0/\
+         started/finish/take own 0",
+        "context 0/deployment 1/start 1/consumer 3/ok/idle/sent 6 to 3/deliver 3 6 1/ok/ok/deployend 1 ok/",
+    ),
+    (
+        "context/deploy +tell:0 silent s 1/take loop 0/finish later/undeploy 1/take loop 0/take own 0/close",
+        "context 0/deployment 1/start 1/ok/ok/idle/idle/refused 27 still deployed 1/",
+    ),
+    (
+        "context/deploy +tell:0 silent s 1/take loop 0/finish value -1/take own 0",
+        "context 0/deployment 1/start 1/ok/deployend 1 ok/",
+    ),
+    (
+        "context/deploy +tell:0 silent p 1/take loop 0/deploy silent c 1/finish fail 3/take own 0/take loop 1/\
+         finish/take loop 1/finish/take own 0",
+        "context 0/deployment 1/start 1/deployment 3/ok/idle/start 3/ok/stop 3/ok/deployend 1 fail 3/",
+    ),
+    (
+        "deploy silent s 1/register 0 a/take own 0/take loop 0/register 0 a/finish/send a 1/undeploy 0/\
+         take loop 0/finish/take loop 0/finish/send a 2/take loop 0",
+        "deployment 0/refused 4 not yours context 0/refused 8 no lane/start 0/consumer 4/ok/sent 6 to 4/ok/\
+         deliver 4 6 1/ok/stop 0/ok/sent 12 to none/idle/",
+    ),
+    (
+        "deploy counter c 1/take loop 0/register 0 a/finish/context/request 4 a 1/take loop 0/reply 5 2/finish/\
+         take own 4",
+        "deployment 0/start 0/consumer 2/ok/context 4/asked 5 to 2/request 2 5 1/ok/ok/outcome 5 ok 2/",
+    ),
+    (
+        "deploy silent s 1/deploy silent t 1/close/take loop 0/finish/undeploy 0/close/take loop 0/finish/close/\
+         take loop 1/finish/undeploy 1/take loop 1/finish/close/close",
+        "deployment 0/deployment 1/refused 27 still deployed 0/start 0/ok/ok/refused 27 still deployed 0/stop 0/\
+         ok/refused 27 still deployed 1/start 1/ok/ok/stop 1/ok/ok/refused 28 host closed 15/",
+    ),
+    (
+        "context/register 0 a/send a 1/take own 0/close/reply 2 1/finish/finish/pass/@1 take loop 16/loops 1/\
+         pool p 1/deploy silent s 1/undeploy 0/started/send a 1",
+        "context 0/consumer 1/sent 2 to 1/deliver 1 2 1/ok/refused 28 host closed 4/ok/refused 5 not holding/\
+         pass 1/stopped/refused 28 host closed 4/refused 28 host closed 4/refused 28 host closed 4/\
+         refused 28 host closed 4/refused 28 host closed 4/refused 28 host closed 4/",
+    ),
 ];
 
 /// Bad scripts, with the first line in no form, and why. A `/` stands for a newline.
-static BAD: [(&str, u64, LineWhy); 93] = [
+static BAD: [(&str, u64, LineWhy); 94] = [
     ("context/foo", 2, LineWhy::Word),
     ("context/pass 1", 2, LineWhy::Form),
     ("context\r//# fine/context 1/foo", 4, LineWhy::Form),
@@ -213,9 +358,8 @@ static BAD: [(&str, u64, LineWhy); 93] = [
     ("@1", 1, LineWhy::Pass),
     ("@0", 1, LineWhy::Word),
     ("@0 @0 pass", 1, LineWhy::Word),
-    ("@0 loops", 1, LineWhy::Unbuilt),
-    ("close 1", 1, LineWhy::Unbuilt),
-    ("pool p 1", 1, LineWhy::Unbuilt),
+    ("@0 loops", 1, LineWhy::Form),
+    ("close 1", 1, LineWhy::Form),
     ("register +x +limit:", 1, LineWhy::Form),
     ("register +limit 0 a", 1, LineWhy::Form),
     ("register +limit:x 0 a", 1, LineWhy::Form),
@@ -258,14 +402,10 @@ static BAD: [(&str, u64, LineWhy); 93] = [
     ("rule out has:a add:b", 1, LineWhy::Form),
     ("rule in any stop 1", 1, LineWhy::Form),
     ("unrule +1", 1, LineWhy::Form),
-    ("take loop 1", 1, LineWhy::Unbuilt),
-    ("take pool", 1, LineWhy::Unbuilt),
-    ("take named e", 1, LineWhy::Unbuilt),
+    ("take named e", 1, LineWhy::Form),
     ("take +x loop 0", 1, LineWhy::Form),
     ("take own", 1, LineWhy::Form),
     ("take any 0", 1, LineWhy::Form),
-    ("finish later", 1, LineWhy::Unbuilt),
-    ("finish nomemory", 1, LineWhy::Unbuilt),
     ("finish all", 1, LineWhy::Form),
     ("register 18446744073709551616 a", 1, LineWhy::Form),
     ("register 000000000000000000001 a", 1, LineWhy::Form),
@@ -288,6 +428,12 @@ static BAD: [(&str, u64, LineWhy); 93] = [
     ("send a\t1", 1, LineWhy::Form),
     ("fail 1 2147483648 x", 1, LineWhy::Form),
     ("fail 1 -2147483649 x", 1, LineWhy::Form),
+    ("deploy nobody a 1", 1, LineWhy::Form),
+    ("context/deploy ticker a 1", 2, LineWhy::Unbuilt),
+    ("deploy silent a 1001", 1, LineWhy::Form),
+    ("work loop 0", 1, LineWhy::Unbuilt),
+    ("deploy silent a 1/@1 take loop 0", 2, LineWhy::Pass),
+    ("pool p", 1, LineWhy::Form),
 ];
 
 /// The lines with a newline for each `/`.

@@ -27,6 +27,7 @@ pub fn advance(
     ensures now { now.new ≡ max now.old moment }
     ensures follows { (history : List Traced) (pass : PassNo) → StoresStand contexts.old timers.old bus.old history → IsAt at now.old history → Follows contexts.new timers.new bus.new history pass (calls.Advance moment) result }
     ensures places { HavePlaces contexts.new bus.new }
+    ensures owed { contexts.new.owed ≡ contexts.old.owed }
 {
     *now = Moment::at(now.ms().max(moment.ms()));
     Reply::Fired(time_out_due(contexts, timers, bus, at, *now))
@@ -43,6 +44,7 @@ fn time_out_due(
     requires { HavePlaces contexts.old bus.old }
     ensures advanced { (history : List Traced) → StoresStand contexts.old timers.old bus.old history → IsNext at history → HasAdvanced contexts.old contexts.new timers.new bus.old bus.new history now result }
     ensures places { HavePlaces contexts.new bus.new }
+    ensures owed { contexts.new.owed ≡ contexts.old.owed }
 {
     let count = timers.count();
     for place in 0..count {

@@ -2,9 +2,10 @@ use Rattle.vx_laws.proofs.Deliveries.{delivered_once}
 use Rattle.vx_laws.proofs.Demand.{take_as_fetched}
 use Rattle.vx_laws.proofs.Leaving.{take_nothing}
 use Rattle.vx_laws.proofs.Order.{take_in_order}
-use Rattle.vx_laws.proofs.Overlap.{never_overlap}
+use Rattle.vx_laws.proofs.Overlap.{loops_apart, never_overlap}
 use Rattle.vx_laws.proofs.Requests.{ended_once}
 use Rattle.vx_laws.proofs.Turns.{take_turns}
+use Rattle.vx_laws.proofs.Undeploying.{end_in_order}
 use Rattle.vx_script.specs.Playing.{history_of}
 use Rattle.vx_script.proofs.LegalRuns.{legal_run}
 use Rattle.vx_script.proofs.Settled.{settled}
@@ -33,6 +34,12 @@ returns-clause-ended_take_nothing g c = λ bytes commands few ok. take_nothing (
 
 pub returns-clause-never_overlap : goal.returns-clause-never_overlap
 returns-clause-never_overlap g c = λ bytes commands few ok. never_overlap (history_of commands) (legal_run bytes commands few ok)
+
+pub returns-clause-loops_never_overlap : goal.returns-clause-loops_never_overlap
+returns-clause-loops_never_overlap g c = λ bytes commands few ok. loops_apart (history_of commands) (legal_run bytes commands few ok)
+
+pub returns-clause-ends_in_order : goal.returns-clause-ends_in_order
+returns-clause-ends_in_order g c = λ bytes commands few ok. end_in_order (history_of commands) (legal_run bytes commands few ok)
 
 pub returns-clause-complete : goal.returns-clause-complete
 returns-clause-complete g c = λ bytes commands words told few ok reads writes.

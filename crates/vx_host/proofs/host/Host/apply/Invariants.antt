@@ -1,6 +1,8 @@
-use Rattle.vx_turn.specs.Passes.{seen_in}
+use Rattle.std.specs.Prelude.{[]}
+use Rattle.vx_turn.specs.Passes.{caller}
+use Rattle.vx_host.specs.Turns.{pass_no}
 use Rattle.vx_host.specs.Calls.{machine_entry}
 use Rattle.vx_host.proofs.host.Host.apply.Given as goal
 
-abbrev pub ghost-apply_in : goal.ghost-apply_in
-ghost-apply_in g a = machine_entry (seen_in a.turn) a.pass a.call
+abbrev pub ghosts-attempt_in_turn : goal.ghosts-attempt_in_turn
+ghosts-attempt_in_turn g a = record { adds = λ history. machine_entry history (pass_no (caller a.pass)) a.argument [] }

@@ -1,7 +1,9 @@
+use Rattle.std.specs.Option.{option_map, option_to_list}
 use Rattle.vx_call.specs.declared.call.Call.TheVariants as calls
-use Rattle.vx_turn.specs.Passes.{seen_in}
+use Rattle.vx_turn.specs.Passes.{caller}
+use Rattle.vx_host.specs.Turns.{pass_no}
 use Rattle.vx_host.specs.Calls.{machine_entry}
 use Rattle.vx_host.proofs.host.Host.finish.Given as goal
 
-abbrev pub ghost-finish_in : goal.ghost-finish_in
-ghost-finish_in g a = machine_entry (seen_in a.turn) a.pass (calls.Finish a.end)
+abbrev pub ghosts-in_turn : goal.ghosts-in_turn
+ghosts-in_turn g a = record { adds = λ history. machine_entry history (pass_no (caller a.pass)) (calls.Finish a.argument.end) (option_to_list (option_map g.V.Verticle.state a.argument.verticle)) }

@@ -1,4 +1,4 @@
-use Rattle.std.proofs.Common.{List}
+use Rattle.std.proofs.Common.{◌≡◌, List}
 use Rattle.vx_call.specs.declared.history.Traced.{Traced}
 use Rattle.vx_context.specs.Stands.{IsNext}
 use Rattle.vx_bus_store.specs.Stands.{StoresStand, HavePlaces}
@@ -9,4 +9,4 @@ abbrev pub invariant-loop-place : goal.invariant-loop-place
 invariant-loop-place l =
     ((history : List Traced) → StoresStand l.fn.contexts l.fn.timers l.fn.bus history → IsNext l.fn.at history →
     Advanced l.fn.contexts l.contexts l.timers l.fn.bus l.bus history l.fn.now l.place)
-    × HavePlaces l.contexts l.bus
+    × HavePlaces l.contexts l.bus × (l.contexts.owed ≡ l.fn.contexts.owed)

@@ -1,5 +1,0 @@
-use Rattle.std.proofs.Common.{[]}
-use Rattle.vx_host.proofs.host.Host.split.Given as goal
-
-abbrev pub ghost-split : goal.ghost-split
-ghost-split g a = []
