@@ -6,7 +6,6 @@ ghost use Rattle.vx_turn.specs.Passes.{place, place_of};
 use std::alloc::Global;
 use std::sync::Wait;
 use std::test::Fail;
-use std::thread::{Threads, join};
 use vx_call::{Call, End, Lane, Options, Refusal, Reply, Task, To, Unmade};
 use vx_data::{Body, BodyView, ContextId, EntryNo, PassNo, Text};
 use vx_host::{Host, Look, Pass, Totals};
@@ -107,8 +106,8 @@ fn send_many<R: Wait + AllocGlobal>(
     all_sent.then_some(pass)
 }
 
-// Sends in two threads, and joins their passes.
-fn both<R: Threads + Wait + Sync + AllocGlobal>(
+// Sends by one pass and then by the other, and joins them.
+fn both<R: Wait + AllocGlobal>(
     rt: &R,
     host: &Host<HostVerticle>,
     one: Pass<HostVerticle>,
@@ -118,18 +117,7 @@ fn both<R: Threads + Wait + Sync + AllocGlobal>(
     requires two { place_of two ≡ place host.now.shared }
     ensures { IfSome result (λ after. place_of after ≡ place_of one) }
 {
-    let (one, two) = join(
-        rt,
-        || -> Option<Pass<HostVerticle>>
-            requires { place_of one ≡ place host.now.shared }
-            ensures { IfSome result (λ after. place_of after ≡ place_of one) }
-        { send_many(rt, host, one, 0) },
-        || -> Option<Pass<HostVerticle>>
-            requires { place_of two ≡ place host.now.shared }
-            ensures { IfSome result (λ after. place_of after ≡ place_of two) }
-        { send_many(rt, host, two, SENDS) },
-    );
-    match (one, two) {
+    match (send_many(rt, host, one, 0), send_many(rt, host, two, SENDS)) {
         (Some(one), Some(two)) => Some(host.join(one, two)),
         _ => None,
     }
@@ -181,7 +169,7 @@ fn take_number<R: Wait>(
     }
 }
 
-// Takes the tasks of both threads, and answers how many of each came in the order in which they were sent.
+// Takes the tasks of both passes, and answers how many of each came in the order in which they were sent.
 fn take_all<R: Wait>(
     rt: &R,
     host: &Host<HostVerticle>,
@@ -213,9 +201,9 @@ fn totals(messages: u64, deliveries: u64) -> Totals {
     }
 }
 
-// What two threads of 100 sends come to: the length of the history, the totals before anything is taken, how many of each
-// thread's messages are taken in its order, and the totals then.
-fn sent_by_both<R: Threads + Wait + Sync + AllocGlobal>(
+// What 100 sends of each of two passes come to: the length of the history, the totals before anything is taken, how many of
+// each pass's messages are taken in its order, and the totals then.
+fn sent_by_both<R: Wait + AllocGlobal>(
     rt: &R,
     host: &Host<HostVerticle>,
     pass: Pass<HostVerticle>,
@@ -232,7 +220,7 @@ fn sent_by_both<R: Threads + Wait + Sync + AllocGlobal>(
 }
 
 #[test]
-fn two_threads_of_100_sends(rt: HostRuntime) -> Result<(), Fail> {
+fn two_passes_of_100_sends(rt: HostRuntime) -> Result<(), Fail> {
     let (host, pass) = Host::open(rt.alloc())?;
     let came_to = sent_by_both(&rt, &host, pass);
     assert!(rt; came_to == Some((203, totals(200, 0), (SENDS, SENDS), totals(200, 200))));
